@@ -1,0 +1,4 @@
+pub mod Pushed
+pub mod Moves
+pub mod Read
+pub mod Parts

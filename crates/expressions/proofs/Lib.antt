@@ -1,0 +1,4 @@
+pub mod Frames
+pub mod Copying
+pub mod Growing
+pub mod Atoms

@@ -1,0 +1,8 @@
+// Nothing runs here yet.
+ghost use mathlib.Core.Path.{_≡_};
+
+pub fn none() -> u8
+    ensures { λ r. ⌜ r ≡ 0 ⌝ }
+{
+    0
+}
