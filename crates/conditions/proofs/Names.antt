@@ -21,10 +21,10 @@ use Rattle.finder.specs.declared.name.Name.{Name}
 use Rattle.finder.specs.Placed.{Fresh, First}
 use Rattle.grammar.specs.declared.Refusal.the-variants.{UnknownName, DeclaredAgain, LimitPassed}
 use Rattle.grammar.specs.Outcome.{Out, refused}
-use Rattle.grammar.specs.Bytes.{part, passes, nameLength, nameByte, nameStart}
+use Rattle.grammar.specs.Bytes.{part, nameLength}
 use Rattle.grammar.specs.Conditions as grammar
 use Rattle.grammar.specs.Conditions.{onlyInitial, numbered, conditionAt, declareAt}
-use Rattle.tokens.proofs.Items.{name-none, name-some, name-there, name-within, span-most}
+use Rattle.tokens.proofs.Items.{name-there, name-within, name-most}
 use Rattle.conditions.specs.declared.Conditions.{Conditions}
 use Rattle.conditions.specs.declared.Spelt.{Spelt}
 use Rattle.conditions.specs.Known.{text, known, declaredFrom, NameAt}
@@ -121,13 +121,6 @@ module _ (s : List ℕ) (c : Conditions) (n : ℕ) (x : Spelt) (a : NameAt s n x
         let v : known more .inclusive ≡ (λ j. known c .inclusive j || (inclusive && eqb j (length (known c .names)))) = fun-ext (λ j. h j ∙ ap (λ (k : ℕ). known c .inclusive j || (inclusive && eqb j k)) r) in
         let o = a .next in
         rw (p, i, b) (same-declared _ _ _ _ _ _ w v o)
-
-name-most : (s : List ℕ) (n : ℕ) → nameLength s n ≤ 24
-name-most s n =
-    elim (cases-bool (passes nameStart s n)) [
-      | inl e ↦ omega (arith, name-some s n (sym e), span-most nameByte s 23 (suc n))
-      | inr e ↦ omega (arith, name-none s n (sym e))
-    ]
 
 module _ (s : List ℕ) (n len : ℕ) (e : len ≡ nameLength s n) (some : len ≡ 0 → ⊥) where
   pub name-ends : n + len ≤ length s

@@ -53,7 +53,7 @@ moreOrLessAt s n = then (literal (codes "yy") s n) (yieldAt s)
 abbrev pub rejectAt : List ℕ → ℕ → Out Stepped
 rejectAt s n = then (literal (codes "REJECT;") s n) (stepped Reject)
 
--- steps so far, how many of them write, what may still come, and the place behind them
+-- steps so far, what may still come, and the place behind them
 pub record Action : Type 0 where
   pub steps : List Step
   pub stage : Stage

@@ -124,7 +124,7 @@ repeatedMore s p = parsed (repeatedBy (getD s (p .at) 0) (p .tree)) (p .at + 1) 
 unfoldable pub pieceBy : Option Parser → List ℕ → Parser
 pieceBy inner s n u = then (atomBy inner s n u) (many (marked s) (repeatedMore s) (length s))
 
--- behind the first bound, m, which was read at n, and a comma: the `}`, or the second bound at k and the `}`
+-- behind the first bound, m, and a comma: the `}`, or the second bound at k and the `}`
 abbrev pub upTo : List ℕ → ℕ → ℕ → Out Bounds
 upTo s m k =
     cond (stands s k 125) (Ok (record { interval = AtLeast m; next = k + 1 }))

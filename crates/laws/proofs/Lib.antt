@@ -1,0 +1,10 @@
+pub mod Intervals
+pub mod Examples
+pub mod Ends
+pub mod Members
+pub mod Growth
+pub mod Branches
+pub mod Named
+pub mod Steps
+pub mod Whole
+pub mod Rest

@@ -1,0 +1,5 @@
+pub mod Intervals
+pub mod Examples
+pub mod Branches
+pub mod Limits
+pub mod Rest
