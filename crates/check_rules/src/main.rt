@@ -20,7 +20,10 @@ fn main(rt: LibcRuntime) -> Result<(), AnyError> {
             let rules = counts.rules;
             let conditions = counts.conditions;
             let positions = counts.positions;
-            println!(rt, "{rules} rules, {conditions} conditions, {positions} positions")?;
+            println!(
+                rt,
+                "{rules} rules, {conditions} conditions, {positions} positions"
+            )?;
             Ok(())
         }
         Err(fault) => {

@@ -31,8 +31,8 @@ pub const CONDITIONS: usize = 8;
 #[derive(Clone, Copy)]
 pub struct Conditions {
     names: [Name; 8],
-    pub count: usize,
-    pub inclusive: ConditionSet,
+    count: usize,
+    inclusive: ConditionSet,
 }
 
 // Conditions that a rule names, and the place behind them.
@@ -136,6 +136,13 @@ impl Conditions {
             count: 1,
             inclusive,
         }
+    }
+
+    // How many there are.
+    pub fn number(self) -> usize
+        ensures { λ r. ⌜ r ≡ length (known self .names) ⌝ }
+    {
+        self.count.min(CONDITIONS)
     }
 
     // The condition that is named at n.

@@ -123,18 +123,21 @@ placed-copied e base zero w w′ x f l room h s =
         at : (ltb q 512 ≡ true) ⊎ (ltb q 512 ≡ false) → (ltb q 512 && (leb 0 q && has t (q - 0))) ≡ has t q
         at (inl y) = let z : q - 0 ≡ q = omega arith in let n : leb 0 q ≡ true = le-leb 0 q (omega arith) in rw (y, z, n)
         at (inr y) = rw y (sym (g (ltb-false q 512 y)))
+
     past-first : (q : ℕ) → 512 ≤ q → has (x .first .words) q ≡ false
     past-first q g = l .begins q ∙ none (first e base q) (λ t. omega (arith, first-in e base q t .1, l .within))
       where
         none : (v : Bool) → (v ≡ true → ⊥) → v ≡ false
         none true k = absurd (k refl)
         none false k = refl
+
     past-last : (q : ℕ) → 512 ≤ q → has (x .last .words) q ≡ false
     past-last q g = l .ends q ∙ none (last e base q) (λ t. omega (arith, last-in e base q t .1, l .within))
       where
         none : (v : Bool) → (v ≡ true → ⊥) → v ≡ false
         none true k = absurd (k refl)
         none false k = refl
+
     back : ((k q : ℕ) → member w′ k q ≡ member w k q) → Laid w′ e base f
     back same = record {
       within = l .within;
@@ -174,7 +177,7 @@ module _ (i : Interval) (e : Expression) (base last : ℕ) (x : Fragment) (w₀ 
       let rest : last - k ≡ suc (last - suc k) = omega arith in
       let at : base + suc k * n ≡ base + m + size (copyOf i k e) = omega (arith, step, c) in
       let high : Laid w₂ (sideBySide i e (suc k) (last - suc k)) (base + suc k * n) all =
-          laid-outside _ _ _ _ w₁ w₂ all (laid-outside _ _ _ _ w w₁ all (t .copies) o₁ (inr (omega (arith, step)))) o₂ (inr (omega (arith, step))) in
+      laid-outside _ _ _ _ w₁ w₂ all (laid-outside _ _ _ _ w w₁ all (t .copies) o₁ (inr (omega (arith, step)))) o₂ (inr (omega (arith, step))) in
       let high′ : Laid w₂ (sideBySide i e (suc k) (last - suc k)) (base + m + size (copyOf i k e)) all = subst (λ (a : ℕ). Laid w₂ (sideBySide i e (suc k) (last - suc k)) a all) at high in
       let joined : Laid w₃ (Then (copyOf i k e) (sideBySide i e (suc k) (last - suc k))) (base + m) more = laid-then c₂ high′ room s in
       let o₃ : Outside (base + m) (base + m + size (copyOf i k e)) w₂ w₃ = outside-linked (copyOf i k e) (base + m) w₂ next c₂ w₃ _ _ (s .memory) in
@@ -190,8 +193,10 @@ module _ (i : Interval) (e : Expression) (base last : ℕ) (x : Fragment) (w₀ 
     where
       grows : (a b n : ℕ) → a ≤ b → a * n ≤ b * n
       grows a b n h = mul-le-mul-right n h
+
       bounded : (k last n base : ℕ) → suc k ≤ last → base + k * n + n ≤ base + suc last * n
       bounded k last n base h = omega (arith, suc-mul k n, grows (suc k) (suc last) n (omega arith))
+
       apart : (k n : ℕ) → 0 < k → base + n ≤ base + k * n
       apart k n h = omega (arith, suc-mul 0 n, zero-mul n, grows 1 k n h)
 
@@ -220,7 +225,7 @@ all-copies i base last n k x w w₁ w₂ w₃ copy start all le kz room s f turn
     let c : Placed e (base + last * size e) w w₁ copy = placed-copied e base last w w₁ x copy l room b s′ in
     let g : Placed (copyOf i last e) (base + last * size e) w₁ w₂ start = f e (base + last * size e) (c .laid) in
     let o : Outside (base + last * size e) (base + last * size e + size e) w w₂ =
-        outside-trans _ _ w w₁ w₂ (c .outside) (outside-wider _ _ _ _ w₁ w₂ (omega arith) (omega (arith, size-copy i last e)) (g .outside)) in
+    outside-trans _ _ w w₁ w₂ (c .outside) (outside-wider _ _ _ _ w₁ w₂ (omega arith) (omega (arith, size-copy i last e)) (g .outside)) in
     let z : last - last ≡ 0 = omega arith in
     let first : Turn i e base last x w₂ w₂ last start = record {
       below = omega arith;
@@ -231,9 +236,9 @@ all-copies i base last n k x w w₁ w₂ w₃ copy start all le kz room s f turn
     let done : Turn i e base last x w₂ w₃ 0 all = subst (λ (h : ℕ). Turn i e base last x w₂ w₃ h all) (omega arith) (turns e se first) in
     let at : base + 0 * size e ≡ base = omega (arith, zero-mul (size e)) in
     let whole : Laid w₃ (sideBySide i e 0 last) base all =
-        subst (λ (a : ℕ). Laid w₃ (sideBySide i e 0 last) a all) at (subst (λ (j : ℕ). Laid w₃ (sideBySide i e 0 j) (base + 0 * size e) all) (omega arith) (done .copies)) in
+    subst (λ (a : ℕ). Laid w₃ (sideBySide i e 0 last) a all) at (subst (λ (j : ℕ). Laid w₃ (sideBySide i e 0 j) (base + 0 * size e) all) (omega arith) (done .copies)) in
     let size-is : size (sideBySide i e 0 last) ≡ suc last * size e = size-side i e last 0 in
     let wide : Outside base (base + suc last * size e) w w₂ = outside-wider _ _ _ _ w w₂ (omega arith) (omega (arith, suc-mul last (size e))) o in
     let all-out : Outside base (base + size (sideBySide i e 0 last)) w w₃ =
-        subst (λ (m : ℕ). Outside base (base + m) w w₃) (sym size-is) (outside-trans _ _ w w₂ w₃ wide (done .outside)) in
+    subst (λ (m : ℕ). Outside base (base + m) w w₃) (sym size-is) (outside-trans _ _ w w₂ w₃ wide (done .outside)) in
     subst (λ (j : ℕ). Placed (sideBySide i e 0 j) base w w₃ all) le record { laid = whole; outside = all-out }

@@ -57,6 +57,7 @@ laid-outside e a c d w w′ f l o side = record {
   where
     bound : (p : ℕ) → p < a + size e → p < 512
     bound p k = omega (arith, l .within)
+
     away : (p : ℕ) → a ≤ p → p < a + size e → (a + size e ≤ c) ⊎ (d ≤ a) → Apart c d p
     away p h k (inl x) = inl (omega arith)
     away p h k (inr x) = inr (omega arith)

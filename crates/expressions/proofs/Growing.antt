@@ -156,7 +156,7 @@ interval-steps s base w w′ all b x f e x-is low fits c t h =
     let n-is : all .used - base ≡ size t = omega (arith, h .counts) in
     let c′ : Copies i base (size t) w w′ (all .part) f = subst (λ (n : ℕ). Copies i base n w w′ (all .part) f) n-is c in
     let used-is : all .used + x * (all .used - base) ≡ all .used + extra i * size t =
-        ap (λ (n : ℕ). all .used + n * (all .used - base)) x-is ∙ ap (λ (n : ℕ). all .used + extra i * n) n-is in
+    ap (λ (n : ℕ). all .used + n * (all .used - base)) x-is ∙ ap (λ (n : ℕ). all .used + extra i * n) n-is in
     let fits′ : all .used + extra i * size t ≤ 512 = subst (λ (n : ℕ). n ≤ 512) used-is fits in
     let g : Placed (repeated i t) base w w′ f = c′ t (h .laid) refl (omega (arith, suc-mul (extra i) (size t), h .counts)) in
     let test : leb (all .used + extra i * size t) 512 ≡ true = le-leb _ _ fits′ in record {
@@ -177,7 +177,7 @@ interval-full s base w w′ all b x e x-is past t h =
     let i = b .interval in
     let n-is : all .used - base ≡ size t = omega (arith, h .counts) in
     let used-is : all .used + x * (all .used - base) ≡ all .used + extra i * size t =
-        ap (λ (n : ℕ). all .used + n * (all .used - base)) x-is ∙ ap (λ (n : ℕ). all .used + extra i * n) n-is in
+    ap (λ (n : ℕ). all .used + n * (all .used - base)) x-is ∙ ap (λ (n : ℕ). all .used + extra i * n) n-is in
     let test : leb (all .used + extra i * size t) 512 ≡ false = lt-leb _ _ (subst (λ (n : ℕ). 512 < n) used-is past) in
     ap (λ (o : Out Bounds). then o (repeatedOver (parsedAs all t))) (sym e)
     ∙ ap (λ (y : Bool). cond y (parsed (repeated i t) (b .next) (all .used + extra i * size t)) (refused LimitPassed (all .at))) test

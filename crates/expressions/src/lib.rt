@@ -87,7 +87,13 @@ fn formed(work: &mut [PositionSet], interval: Interval, k: usize, x: &Fragment) 
 
 // The copies of x, whose `size` positions begin at `base`, side by side. From the last to the first, so that the
 // original is copied before anything is joined to it.
-fn copies(work: &mut [PositionSet], base: usize, size: usize, interval: Interval, x: &Fragment) -> Fragment
+fn copies(
+    work: &mut [PositionSet],
+    base: usize,
+    size: usize,
+    interval: Interval,
+    x: &Fragment,
+) -> Fragment
     requires { ⌜ 1024 ≤ length (now work) ⌝ ∗ ⌜ base + suc (extraOf interval) * size ≤ 512 ⌝ }
     ensures { λ r. ⌜ Copies interval base size (now (work .entry)) (now (work .exit)) (now (x .entry)) r ⌝ }
 {
@@ -142,7 +148,8 @@ fn starts_atom(b: u8) -> bool
     ensures { λ r. ⌜ r ≡ startsAtom b ⌝ }
 {
     match b {
-        b'$' | b')' | b'*' | b'+' | b'/' | b'<' | b'>' | b'?' | b']' | b'^' | b'{' | b'|' | b'}' => false,
+        b'$' | b')' | b'*' | b'+' | b'/' | b'<' | b'>' | b'?' | b']' | b'^' | b'{' | b'|' | b'}' =>
+            false,
         _ => b > 32,
     }
 }
@@ -240,7 +247,12 @@ fn joined(work: &mut [PositionSet], x: &Parsed, y: &Parsed) -> Parsed
 }
 
 // One more byte or escape of a quote.
-fn quoted_more(s: &[u8], all: &Parsed, base: usize, work: &mut [PositionSet]) -> Result<Parsed, Fault>
+fn quoted_more(
+    s: &[u8],
+    all: &Parsed,
+    base: usize,
+    work: &mut [PositionSet],
+) -> Result<Parsed, Fault>
     requires { ⌜ 1024 ≤ length (now work) ⌝ }
     ensures gives { λ r. ⌜ Steps (quotedMore (now (s .entry))) base (now (work .entry)) (now (work .exit)) (now (all .entry)) r ⌝ }
     ensures moves { λ r. ⌜ Moves r (now (all .entry) .at) (length (now (s .entry))) ⌝ }
@@ -277,7 +289,13 @@ fn past(all: &Parsed) -> Parsed
     }
 }
 
-fn group(s: &[u8], at: usize, used: usize, depth: usize, work: &mut [PositionSet]) -> Result<Parsed, Fault>
+fn group(
+    s: &[u8],
+    at: usize,
+    used: usize,
+    depth: usize,
+    work: &mut [PositionSet],
+) -> Result<Parsed, Fault>
     requires { ⌜ at < length (now s) ⌝ ∗ ⌜ 1024 ≤ length (now work) ⌝ }
     ensures gives { λ r. ⌜ Gives (groupBy (inside depth (now (s .entry))) (now (s .entry)) at used) used (now (work .entry)) (now (work .exit)) r ⌝ }
     ensures moves { λ r. ⌜ Moves r at (length (now (s .entry))) ⌝ }
@@ -292,7 +310,13 @@ fn group(s: &[u8], at: usize, used: usize, depth: usize, work: &mut [PositionSet
     Ok(past(&inner))
 }
 
-fn atom(s: &[u8], at: usize, used: usize, depth: usize, work: &mut [PositionSet]) -> Result<Parsed, Fault>
+fn atom(
+    s: &[u8],
+    at: usize,
+    used: usize,
+    depth: usize,
+    work: &mut [PositionSet],
+) -> Result<Parsed, Fault>
     requires { ⌜ 1024 ≤ length (now work) ⌝ }
     ensures gives { λ r. ⌜ Gives (atomBy (inside depth (now (s .entry))) (now (s .entry)) at used) used (now (work .entry)) (now (work .exit)) r ⌝ }
     ensures moves { λ r. ⌜ Moves r at (length (now (s .entry))) ⌝ }
@@ -334,7 +358,13 @@ fn marked(work: &mut [PositionSet], mark: Repeat, all: &Parsed) -> Parsed
     }
 }
 
-fn piece(s: &[u8], at: usize, used: usize, depth: usize, work: &mut [PositionSet]) -> Result<Parsed, Fault>
+fn piece(
+    s: &[u8],
+    at: usize,
+    used: usize,
+    depth: usize,
+    work: &mut [PositionSet],
+) -> Result<Parsed, Fault>
     requires { ⌜ 1024 ≤ length (now work) ⌝ }
     ensures gives { λ r. ⌜ Gives (pieceBy (inside depth (now (s .entry))) (now (s .entry)) at used) used (now (work .entry)) (now (work .exit)) r ⌝ }
     ensures moves { λ r. ⌜ Moves r at (length (now (s .entry))) ⌝ }
@@ -354,7 +384,13 @@ fn goes_on(s: &[u8], n: usize) -> bool
 }
 
 // The branch `all`, which begins with position `base`, and one more piece, or an interval over all of it.
-fn extended(s: &[u8], all: &Parsed, base: usize, depth: usize, work: &mut [PositionSet]) -> Result<Parsed, Fault>
+fn extended(
+    s: &[u8],
+    all: &Parsed,
+    base: usize,
+    depth: usize,
+    work: &mut [PositionSet],
+) -> Result<Parsed, Fault>
     requires { ⌜ 1024 ≤ length (now work) ⌝ ∗ ⌜ Counted base (now all) ⌝ }
     ensures gives { λ r. ⌜ Steps (branchMore (inside depth (now (s .entry))) (now (s .entry))) base (now (work .entry)) (now (work .exit)) (now (all .entry)) r ⌝ }
     ensures moves { λ r. ⌜ Moves r (now (all .entry) .at) (length (now (s .entry))) ⌝ }
@@ -366,7 +402,13 @@ fn extended(s: &[u8], all: &Parsed, base: usize, depth: usize, work: &mut [Posit
     Ok(joined(work, all, &more))
 }
 
-fn branch(s: &[u8], at: usize, used: usize, depth: usize, work: &mut [PositionSet]) -> Result<Parsed, Fault>
+fn branch(
+    s: &[u8],
+    at: usize,
+    used: usize,
+    depth: usize,
+    work: &mut [PositionSet],
+) -> Result<Parsed, Fault>
     requires { ⌜ 1024 ≤ length (now work) ⌝ }
     ensures gives { λ r. ⌜ Gives (branchBy (inside depth (now (s .entry))) (now (s .entry)) at used) used (now (work .entry)) (now (work .exit)) r ⌝ }
     ensures moves { λ r. ⌜ Moves r at (length (now (s .entry))) ⌝ }
@@ -379,7 +421,13 @@ fn branch(s: &[u8], at: usize, used: usize, depth: usize, work: &mut [PositionSe
 }
 
 // `all`, or the branch behind the `|` that stands there.
-fn alternative(s: &[u8], all: &Parsed, base: usize, depth: usize, work: &mut [PositionSet]) -> Result<Parsed, Fault>
+fn alternative(
+    s: &[u8],
+    all: &Parsed,
+    base: usize,
+    depth: usize,
+    work: &mut [PositionSet],
+) -> Result<Parsed, Fault>
     requires { ⌜ 1024 ≤ length (now work) ⌝ ∗ ⌜ now all .at < length (now s) ⌝ }
     ensures gives { λ r. ⌜ Steps (alternationMore (inside depth (now (s .entry))) (now (s .entry))) base (now (work .entry)) (now (work .exit)) (now (all .entry)) r ⌝ }
     ensures moves { λ r. ⌜ Moves r (now (all .entry) .at) (length (now (s .entry))) ⌝ }
@@ -392,7 +440,13 @@ fn alternative(s: &[u8], all: &Parsed, base: usize, depth: usize, work: &mut [Po
     })
 }
 
-fn alternation(s: &[u8], at: usize, used: usize, depth: usize, work: &mut [PositionSet]) -> Result<Parsed, Fault>
+fn alternation(
+    s: &[u8],
+    at: usize,
+    used: usize,
+    depth: usize,
+    work: &mut [PositionSet],
+) -> Result<Parsed, Fault>
     requires { ⌜ 1024 ≤ length (now work) ⌝ }
     ensures gives { λ r. ⌜ Gives (alternationBy (inside depth (now (s .entry))) (now (s .entry)) at used) used (now (work .entry)) (now (work .exit)) r ⌝ }
     ensures moves { λ r. ⌜ Moves r at (length (now (s .entry))) ⌝ }
@@ -405,7 +459,12 @@ fn alternation(s: &[u8], at: usize, used: usize, depth: usize, work: &mut [Posit
 }
 
 // The alternation at `at`, with `used` positions used before it. Too little work memory is refused, and left as it is.
-pub fn expression(s: &[u8], at: usize, used: usize, work: &mut [PositionSet]) -> Result<Parsed, Fault>
+pub fn expression(
+    s: &[u8],
+    at: usize,
+    used: usize,
+    work: &mut [PositionSet],
+) -> Result<Parsed, Fault>
     ensures gives { λ r. ⌜ Expressed (now (s .entry)) at used (now (work .entry)) (now (work .exit)) r ⌝ }
     ensures moves { λ r. ⌜ Moves r at (length (now (s .entry))) ⌝ }
 {

@@ -34,6 +34,11 @@ trailingSize (Some x) = 1 + size x
 abbrev pub ruleSize : RuleText → ℕ
 ruleSize q = 1 + (size (q .expression) + trailingSize (q .trailing))
 
+-- the positions of all rules
+abbrev pub allPositions : List RuleText → ℕ
+allPositions [] = 0
+allPositions (q ∷ qs) = ruleSize q + allPositions qs
+
 -- r, and behind it a trailing part if there is one
 pub record Pattern : Type 0 where
   pub expression : Expression

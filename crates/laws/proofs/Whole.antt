@@ -13,9 +13,9 @@ use Rattle.grammar.specs.Bytes.{blank, passes, stands, span}
 use Rattle.grammar.specs.Lines.{Line, lineEnd, nextLine, prepend, linesFrom, lines, textOf, divides}
 use Rattle.grammar.specs.Expressions.{Parsed, alternationAt, inside}
 use Rattle.grammar.specs.Conditions.{Conditions, onlyInitial, Picked}
-use Rattle.grammar.specs.File.{RuleText, trailingSize, ruleSize, Pattern, trailedBy, trailingAt, patternAt, RuleRead, ruleOf, behindPattern, behindActive, startsRule, ruleLine, FirstSection, firstSection, RuleFile, secondSection, ruleFileOf}
+use Rattle.grammar.specs.File.{RuleText, trailingSize, ruleSize, Pattern, trailedBy, trailingAt, patternAt, RuleRead, ruleOf, behindPattern, behindActive, startsRule, ruleLine, FirstSection, firstSection, RuleFile, secondSection, ruleFileOf, allPositions}
 use Rattle.tokens.proofs.Items.{span-within, line-within}
-use Rattle.laws.specs.Limits.{Places-within, Each, Rule-within, allPositions, File-within, Limits-kept}
+use Rattle.laws.specs.Limits.{Places-within, Each, Rule-within, File-within, Limits-kept}
 use Rattle.laws.proofs.Ends.{Ends, well, ill, well-at, ill-is, map-ends, then-ends, cond-ends, standing}
 use Rattle.laws.proofs.Growth.{Grown, alternation-ends, inside-ends}
 use Rattle.laws.proofs.Named.{Bounded, initial-bounded, Picks, active-ends, declaration-ends}

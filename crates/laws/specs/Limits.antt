@@ -8,7 +8,7 @@ use Rattle.std.specs.declared.result.Result.the-variants.{Ok, Err}
 use Rattle.grammar.specs.declared.Fault.{Fault}
 use Rattle.grammar.specs.declared.Step.{Step}
 use Rattle.grammar.specs.declared.Step.the-variants.{Echo, Mark, Begin, More, Less, Reject}
-use Rattle.grammar.specs.File.{RuleText, RuleFile, ruleSize, ruleFileOf}
+use Rattle.grammar.specs.File.{RuleText, RuleFile, allPositions, ruleFileOf}
 
 -- a fault points at a byte of the file, or at its end
 abbrev pub Places-within : Type 0
@@ -33,11 +33,6 @@ pub record Rule-within (n : ℕ) (q : RuleText) : Type 0 where
   pub active-known : (c : ℕ) → q .active c ≡ true → c < n
   pub ten-steps : length (q .steps) ≤ 10
   pub each-step : Each (Step-within n) (q .steps)
-
--- the positions of all rules
-abbrev pub allPositions : List RuleText → ℕ
-allPositions [] = 0
-allPositions (q ∷ qs) = ruleSize q + allPositions qs
 
 pub record File-within (file : List ℕ) (f : RuleFile) : Type 0 where
   pub bytes : length file ≤ 8192

@@ -1,2 +1,4 @@
 pub mod Machine
 pub mod Marks
+pub mod Loaded
+pub mod Sections

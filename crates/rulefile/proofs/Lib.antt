@@ -1,0 +1,5 @@
+pub mod Joins
+pub mod Trails
+pub mod Reading
+pub mod Rules
+pub mod Adding
