@@ -1,2 +1,3 @@
 pub mod Expression
 pub mod Positions
+pub mod Theorems
