@@ -17,8 +17,9 @@ use grammar::Stage;
 use grammar::Step;
 use grammar::Stepped;
 use tokens::Kind;
+use tokens::Token;
 use tokens::literal;
-use tokens::number;
+use tokens::number_at;
 use tokens::span;
 use tokens::stands;
 
@@ -69,21 +70,20 @@ fn numeral(s: &[u8], n: usize, low: usize, high: usize, behind: &[u8]) -> Result
     ensures is { λ r. ⌜ ((make : ℕ → Step) → madeBy make r ≡ numeralAt (now (s .entry)) low high make (now (behind .entry)) n) ⌝ }
     ensures most { λ r. ⌜ made r (λ x. x .value ≤ high) ⌝ }
 {
-    let found = number(s, n, 4);
-    if found.digits == 0 {
-        return Err(misfit(n));
+    match number_at(s, n, 4) {
+        Token::Number(digits) => {
+            let value = tokens::value(digits);
+            if value < low || value > high {
+                return Err(Fault {
+                    refusal: Refusal::OutOfBounds,
+                    place: n,
+                });
+            }
+            let next = literal(s, n + digits.len(), behind)?;
+            Ok(Number { value, next })
+        }
+        Token::Name(_) | Token::Nothing => Err(misfit(n)),
     }
-    if found.value < low || found.value > high {
-        return Err(Fault {
-            refusal: Refusal::OutOfBounds,
-            place: n,
-        });
-    }
-    let next = literal(s, n + found.digits, behind)?;
-    Ok(Number {
-        value: found.value,
-        next,
-    })
 }
 
 // `MARK n;`

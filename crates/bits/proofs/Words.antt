@@ -6,15 +6,15 @@ use mathlib.Core.List.{List, [], _∷_}
 use Prim.Native.Nat.{ℕ, zero, suc, _+_, _-_, _*_, _/_, _%_, _^_, _<_, _≤_}
 use native.Mathlib.Nat.{zero-div, div-eq-of-lt, mul-mod-left, pow-suc}
 use native.Mathlib.Omega.{arith}
-use lib.Bits.{bitOr, or-shr, or-mod}
+use lib.Bits.{bitAnd, bitOr, and-shr, and-mod, or-shr, or-mod}
 use lib.Dec.{eqb, ltb}
 use lib.Pow.{pow-lt, pow-add, shl-shr, shr-shr}
-use lib.ListN.{length, getD, set, replicate}
+use lib.ListN.{length, getD, set, replicate, length-set}
 use lib.Seq.{getD-set-same, getD-set-other}
 use borrow.Author.Tests.{eq-eqb, ne-eqb, lt-ltb, le-ltb}
 use Rattle.std.proofs.shelf.Lists.{getD-past, ext-getD}
 use Rattle.std.proofs.shelf.Tests.{cases-order, cases-eq, cases-lt}
-use Rattle.bits.specs.Set.{bit, has, Words}
+use Rattle.bits.specs.Set.{bit, has, Words, Whole}
 
 pub bit-zero : (i : ℕ) → bit 0 i ≡ false
 unfolding bit
@@ -36,6 +36,23 @@ bit-or a b i =
     let y = b / 2 ^ i in
     let e : bitOr a b / 2 ^ i % 2 ≡ bitOr (x % 2) (y % 2) = ap (λ (n : ℕ). n % 2) (or-shr a b i) ∙ or-mod x y 1 in
     rw e (or-small (x % 2) (y % 2) (omega arith) (omega arith))
+
+and-small : (p q : ℕ) → p < 2 → q < 2 → eqb (bitAnd p q) 1 ≡ (eqb p 1 && eqb q 1)
+and-small zero zero hp hq = refl
+and-small zero (suc zero) hp hq = refl
+and-small (suc zero) zero hp hq = refl
+and-small (suc zero) (suc zero) hp hq = refl
+and-small zero (suc (suc q)) hp hq = absurd (omega arith)
+and-small (suc zero) (suc (suc q)) hp hq = absurd (omega arith)
+and-small (suc (suc p)) q hp hq = absurd (omega arith)
+
+pub bit-and : (a b i : ℕ) → bit (bitAnd a b) i ≡ (bit a i && bit b i)
+unfolding bit
+bit-and a b i =
+    let x = a / 2 ^ i in
+    let y = b / 2 ^ i in
+    let e : bitAnd a b / 2 ^ i % 2 ≡ bitAnd (x % 2) (y % 2) = ap (λ (n : ℕ). n % 2) (and-shr a b i) ∙ and-mod x y 1 in
+    rw e (and-small (x % 2) (y % 2) (omega arith) (omega arith))
 
 -- a power of two has the one bit
 pow-even : (m : ℕ) → eqb (2 ^ suc m % 2) 1 ≡ false
@@ -112,6 +129,13 @@ same-word a c j e = rw e
 pub has-union-past : (a b c : List ℕ) (j : ℕ) → length b ≤ j / 64 → getD c (j / 64) 0 ≡ getD a (j / 64) 0 → has c j ≡ (has a j || has b j)
 has-union-past a b c j l e = rw (has-past b j l, or-false) (same-word a c j e)
 
+pub has-common : (a b c : List ℕ) (j : ℕ) → getD c (j / 64) 0 ≡ bitAnd (getD a (j / 64) 0) (getD b (j / 64) 0) → has c j ≡ (has a j && has b j)
+unfolding has
+has-common a b c j e = rw (e, bit-and)
+
+pub has-common-past : (a b c : List ℕ) (j : ℕ) → length a ≤ j / 64 → length c ≤ j / 64 → has c j ≡ (has a j && has b j)
+has-common-past a b c j la lc = rw (has-past a j la, has-past c j lc)
+
 -- members, word by word: v is what bit j % 64 of word j / 64 is to be
 pub has-by-words : (ws : List ℕ) (n j : ℕ) (v : Bool) → length ws ≡ n → (j / 64 < n → bit (getD ws (j / 64) 0) (j % 64) ≡ v) → has ws j ≡ (ltb (j / 64) n && v)
 unfolding has
@@ -134,10 +158,10 @@ pub bit-shr : (w s i : ℕ) → bit (w / 2 ^ s) i ≡ bit w (s + i)
 unfolding bit
 bit-shr w s i = rw shr-shr
 
-half : (n i : ℕ) → bit n (suc i) ≡ bit (n / 2) i
+pub half : (n i : ℕ) → bit n (suc i) ≡ bit (n / 2) i
 half n i = let e : suc i ≡ 1 + i = omega arith in ap (bit n) e ∙ sym (bit-shr n 1 i)
 
-bit-first : (n d : ℕ) → n % 2 ≡ d → bit n 0 ≡ eqb d 1
+pub bit-first : (n d : ℕ) → n % 2 ≡ d → bit n 0 ≡ eqb d 1
 unfolding bit
 bit-first n d e = let f : n / 1 % 2 ≡ d = omega arith in rw f
 
@@ -195,3 +219,13 @@ write-more P xs i w lt f p k h = go (cases-eq k i)
     go : (k ≡ i) ⊎ (k ≡ i → ⊥) → P k (getD (set xs i w) k 0)
     go (inl e) = rw (e, getD-set-same) p
     go (inr n) = let ne : k ≢ i = n in rw getD-set-other (f k (omega arith))
+
+pub whole-set : (n : ℕ) (ws : List ℕ) (i w : ℕ) → Whole n ws → i < n → w < 2 ^ 64 → Whole n (set ws i w)
+whole-set n ws i w (l, f) lt h = (simp length-set l, at)
+  where
+    at : Words (set ws i w)
+    at k q = go (cases-eq k i)
+      where
+        go : (k ≡ i) ⊎ (k ≡ i → ⊥) → getD (set ws i w) k 0 < 2 ^ 64
+        go (inl e) = let il : i < length ws = omega arith in rw (e, getD-set-same) h
+        go (inr n) = let ne : k ≢ i = n in rw getD-set-other (f k (simp length-set at q))

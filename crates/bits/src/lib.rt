@@ -1,11 +1,11 @@
 // Sets of small numbers, in words.
 ghost use mathlib.Core.Path.{_≡_};
-ghost use mathlib.Core.Bool.{false, not, _||_, _&&_};
+ghost use mathlib.Core.Bool.{true, false, not, _||_, _&&_};
 ghost use Prim.Native.Nat.{ℕ, _+_, _-_, _*_, _/_, _<_};
 ghost use lib.Dec.{eqb, leb, ltb};
 ghost use lib.ListN.{length, replicate};
 ghost use Rattle.std.specs.Orderings.{Decides};
-ghost use Rattle.bits.specs.Set.{bit, has, Members-decide};
+ghost use Rattle.bits.specs.Set.{bit, has, First, FirstBit, Whole, Members-decide};
 
 // A set of numbers below 64 * W, in W words: k is in it where bit k % 64 of word k / 64 is set.
 #[derive(Clone, Copy)]
@@ -109,6 +109,81 @@ impl<const W: usize> Bits<W> {
     {
         self.words == other.words
     }
+
+    // The members of either set.
+    pub fn either(self, other: &Self) -> Self
+        ensures members { λ r. ⌜ ((j : ℕ) → has (r .words) j ≡ (has (self .entry .words) j || has (now (other .entry) .words) j)) ⌝ }
+        ensures whole { λ r. ⌜ Whole W (r .words) ⌝ }
+    {
+        let mut out = self;
+        for i in 0..other.width() {
+            out.words[i] |= other.words[i];
+        }
+        out
+    }
+
+    // The members that both sets have.
+    pub fn common(self, other: &Self) -> Self
+        ensures members { λ r. ⌜ ((j : ℕ) → has (r .words) j ≡ (has (self .entry .words) j && has (now (other .entry) .words) j)) ⌝ }
+        ensures whole { λ r. ⌜ Whole W (r .words) ⌝ }
+    {
+        let mut out = self;
+        for i in 0..W {
+            out.words[i] &= other.words[i];
+        }
+        out
+    }
+
+    // Whether there is no member.
+    pub fn is_empty(self) -> bool
+        ensures { λ r. ⌜ ((r ≡ true → (j : ℕ) → has (self .entry .words) j ≡ false) × (r ≡ false → (j : ℕ) × (has (self .entry .words) j ≡ true))) ⌝ }
+    {
+        for i in 0..W {
+            if self.words[i] != 0 {
+                return false;
+            }
+        }
+        true
+    }
+
+    // Whether some number is in both.
+    pub fn meets(self, other: Self) -> bool
+        ensures { λ r. ⌜ ((r ≡ true → (j : ℕ) × (has (self .entry .words) j ≡ true) × (has (other .entry .words) j ≡ true)) × (r ≡ false → (j : ℕ) → (has (self .entry .words) j && has (other .entry .words) j) ≡ false)) ⌝ }
+    {
+        for i in 0..W {
+            if self.words[i] & other.words[i] != 0 {
+                return true;
+            }
+        }
+        false
+    }
+
+    // The first member from `from` on, a word at a time. A member from word 2 ^ 58 on is no usize.
+    pub fn next(self, from: usize) -> Option<usize>
+        ensures { λ r. ⌜ First W (self .entry .words) from r ⌝ }
+    {
+        let end = W.min(1 << 58);
+        let mut low = from % 64;
+        for i in from / 64..end {
+            if let Some(b) = first_bit(self.words[i], low) {
+                return Some(64 * i + b);
+            }
+            low = 0;
+        }
+        None
+    }
+}
+
+// The first set bit of w from `low` on.
+fn first_bit(w: u64, low: usize) -> Option<usize>
+    requires { ⌜ low < 64 ⌝ }
+    ensures { λ r. ⌜ FirstBit w low r ⌝ }
+{
+    let v = w >> low;
+    if v == 0 {
+        return None;
+    }
+    Some(low + v.trailing_zeros() as usize)
 }
 
 // Theorem: sets of as many words that have the same members have the same words.

@@ -2,12 +2,11 @@
 use mathlib.Core.Path.{_≡_, sym, ap, fun-ext, _∙_}
 use mathlib.Core.Bool.{Bool, true, false, cond, not, _&&_, _||_}
 use mathlib.Core.List.{List}
-use mathlib.Core.Logic.{⊎-elim}
 use Prim.Native.Nat.{ℕ, suc, _+_, _-_, _/_, _<_, _≤_}
 use native.Mathlib.Omega.{arith}
 use lib.Chars.{codes}
 use lib.Dec.{eqb, ltb}
-use lib.ListN.{length, take, drop}
+use lib.ListN.{length}
 use borrow.Author.Tests.{ne-eqb, le-ltb}
 use Rattle.std.proofs.shelf.Ways.{tells}
 use Rattle.std.specs.declared.option.Option.{Option}
@@ -24,8 +23,8 @@ use Rattle.grammar.specs.declared.Refusal.the-variants.{Misfit, OutOfBounds}
 use Rattle.grammar.specs.Outcome.{Out, refused, then, many}
 use Rattle.grammar.specs.Bytes.{within, stands, part, nameLength, literal}
 use Rattle.grammar.specs.Brackets.{Chosen, chosen, elementAt, reserved, rangeAhead, rangeEnd, ranged, fromElement, closedClass, classAt, dash, memberAt, inBracket, joined, memberMore, membersAt, sided, closedBracket, bracketAt}
+use Rattle.tokens.specs.Parts.{Part}
 use Rattle.tokens.proofs.Follow.{Left, starts, turns-on, stops, fails}
-use Rattle.tokens.proofs.Items.{name-there, name-within}
 use Rattle.brackets.specs.declared.Chosen as code
 use Rattle.brackets.specs.Sets.{meant, outcome, Moves}
 use Rattle.brackets.proofs.Ahead.{member-moves}
@@ -75,26 +74,20 @@ module _ (s : List ℕ) (n : ℕ) (e : Element) (ws : List ℕ) where
       ∙ ap (λ (o : Out Element). then o (ranged n (e .byte))) r
       ∙ ap (λ (b : Bool). cond b (then (rangeEnd s (e .next + 1)) (ranged n (e .byte))) (chosen (λ b. eqb b (e .byte)) (e .next))) h
 
--- a class by its name
-module _ (s : List ℕ) (n len : ℕ) (named : len ≡ nameLength s n) (some : len ≡ 0 → ⊥) where
-  pub name-fits : n + len ≤ length s
-  name-fits =
-      ⊎-elim (λ none. absurd (some (named ∙ none))) (λ lt. omega (arith, name-within s n (omega arith))) (name-there s n)
+-- a class by its name, which is t
+module _ (s : List ℕ) (n : ℕ) (t : List ℕ) (p : Part s n (nameLength s n) t) (k : Class) (is : Some k ≡ classNamed t) where
+  class-is : then (literal (codes ":]") s (n + length t)) (chosen (members k)) ≡ classAt s n
+  class-is =
+      let z : eqb (nameLength s n) 0 ≡ false = ne-eqb (nameLength s n) 0 (λ q. omega (arith, p .some)) in
+      ap (λ (m : ℕ). closedClass (Some k) s n m) (p .long)
+      ∙ ap (λ (o : Option Class). closedClass o s n (nameLength s n)) (is ∙ ap classNamed (p .is))
+      ∙ ap (λ (b : Bool). cond b (refused Misfit n) (closedClass (classNamed (part s n (nameLength s n))) s n (nameLength s n))) (sym z)
 
-  module _ (k : Class) (is : Some k ≡ classNamed (take (n + len - n) (drop n s))) where
-    class-is : then (literal (codes ":]") s (n + len)) (chosen (members k)) ≡ classAt s n
-    class-is =
-        let z : eqb (nameLength s n) 0 ≡ false = ne-eqb (nameLength s n) 0 (λ q. some (named ∙ q)) in
-        let t : n + len - n ≡ nameLength s n = omega (arith, named) in
-        ap (λ (m : ℕ). closedClass (Some k) s n m) named
-        ∙ ap (λ (o : Option Class). closedClass o s n (nameLength s n)) (is ∙ ap (λ (m : ℕ). classNamed (take m (drop n s))) t)
-        ∙ ap (λ (b : Bool). cond b (refused Misfit n) (closedClass (classNamed (part s n (nameLength s n))) s n (nameLength s n))) (sym z)
+  pub class-fails : (f : Fault) → Err f ≡ literal (codes ":]") s (n + length t) → Err f ≡ classAt s n
+  class-fails f r = ap (λ (o : Out ℕ). then o (chosen (members k))) r ∙ class-is
 
-    pub class-fails : (f : Fault) → Err f ≡ literal (codes ":]") s (n + len) → Err f ≡ classAt s n
-    class-fails f r = ap (λ (o : Out ℕ). then o (chosen (members k))) r ∙ class-is
-
-    pub class-closes : (m : ℕ) (ws : List ℕ) → Ok m ≡ literal (codes ":]") s (n + len) → ((b : ℕ) → has ws b ≡ members k b) → chosen (has ws) m ≡ classAt s n
-    class-closes m ws r h = same-set ws (members k) m h ∙ ap (λ (o : Out ℕ). then o (chosen (members k))) r ∙ class-is
+  pub class-closes : (m : ℕ) (ws : List ℕ) → Ok m ≡ literal (codes ":]") s (n + length t) → ((b : ℕ) → has ws b ≡ members k b) → chosen (has ws) m ≡ classAt s n
+  class-closes m ws r h = same-set ws (members k) m h ∙ ap (λ (o : Out ℕ). then o (chosen (members k))) r ∙ class-is
 
 pub member-element : (s : List ℕ) (first : Bool) (n : ℕ) (e : Element) → false ≡ stands s n 45 → false ≡ reserved s n → Ok e ≡ elementAt s n → fromElement s n e ≡ memberAt s first n
 member-element s first n e a b r =

@@ -14,8 +14,9 @@ use classes::Class;
 use grammar::Element;
 use grammar::Fault;
 use grammar::Refusal;
+use tokens::Token;
 use tokens::literal;
-use tokens::name_length;
+use tokens::name_at;
 use tokens::stands;
 
 // Bytes that are meant, and the place behind what says so.
@@ -162,20 +163,19 @@ fn from_element(s: &[u8], n: usize, e: Element) -> Result<Chosen, Fault>
 fn class_at(s: &[u8], n: usize) -> Result<Chosen, Fault>
     ensures { λ r. ⌜ outcome r ≡ classAt (now (s .entry)) n ⌝ }
 {
-    let len = name_length(s, n);
-    if len == 0 {
-        return Err(misfit(n));
+    match name_at(s, n) {
+        Token::Name(name) => match classes::class_named(name) {
+            Some(class) => Ok(Chosen {
+                bytes: of_class(class),
+                next: literal(s, n + name.len(), b":]")?,
+            }),
+            None => Err(Fault {
+                refusal: Refusal::UnknownName,
+                place: n,
+            }),
+        },
+        Token::Number(_) | Token::Nothing => Err(misfit(n)),
     }
-    let Some(class) = classes::class_named(&s[n..n + len]) else {
-        return Err(Fault {
-            refusal: Refusal::UnknownName,
-            place: n,
-        });
-    };
-    Ok(Chosen {
-        bytes: of_class(class),
-        next: literal(s, n + len, b":]")?,
-    })
 }
 
 // A plain `-` at n: first in its bracket, or else last.

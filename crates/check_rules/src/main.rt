@@ -3,13 +3,13 @@
 use bits::Bits;
 use bits::PositionSet;
 use grammar::Fault;
+use loaded::Loaded;
 use report::caret;
 use report::describe;
 use report::locate;
 use report::number_of;
 use report::shown_line;
 use rulefile::Counts;
-use rulefile::Loaded;
 use rulefile::WORK_SETS;
 use rulefile::read_rules;
 use std::error::AnyError;

@@ -3,11 +3,11 @@ use mathlib.Core.Path.{_≡_, refl, sym, ap, _∙_, fun-ext}
 use mathlib.Core.Bool.{Bool, true, false, _&&_, _||_}
 use mathlib.Core.List.{List, [], _∷_, _++_, map}
 use mathlib.Core.Logic.{inl, inr}
-use Prim.Native.Nat.{ℕ, zero, suc, _+_, _-_, _<_, _≤_, min}
+use Prim.Native.Nat.{ℕ, zero, suc, _+_, _<_, min}
 use native.Mathlib.Omega.{arith}
 use lib.Chars.{codes}
 use lib.Dec.{eqb, ltb}
-use lib.ListN.{length, take, drop, set}
+use lib.ListN.{length, take, set}
 use Rattle.std.proofs.shelf.Lists.{length-map, length-take, take-all, take-more-set, map-push}
 use Rattle.std.proofs.shelf.Tests.{cases-bool, ne-eqb, lt-ltb, le-ltb}
 use Rattle.std.proofs.shelf.Equals.{sameBytes-decides}
@@ -24,7 +24,8 @@ use Rattle.grammar.specs.Outcome.{Out, refused}
 use Rattle.grammar.specs.Bytes.{part, nameLength}
 use Rattle.grammar.specs.Conditions as grammar
 use Rattle.grammar.specs.Conditions.{onlyInitial, numbered, conditionAt, declareAt}
-use Rattle.tokens.proofs.Items.{name-there, name-within, name-most}
+use Rattle.tokens.specs.Parts.{Part}
+use Rattle.tokens.proofs.Items.{name-most}
 use Rattle.conditions.specs.declared.Conditions.{Conditions}
 use Rattle.conditions.specs.declared.Spelt.{Spelt}
 use Rattle.conditions.specs.Known.{text, known, declaredFrom, NameAt}
@@ -122,29 +123,17 @@ module _ (s : List ℕ) (c : Conditions) (n : ℕ) (x : Spelt) (a : NameAt s n x
         let o = a .next in
         rw (p, i, b) (same-declared _ _ _ _ _ _ w v o)
 
-module _ (s : List ℕ) (n len : ℕ) (e : len ≡ nameLength s n) (some : len ≡ 0 → ⊥) where
-  pub name-ends : n + len ≤ length s
-  name-ends =
-      elim (name-there s n) [
-        | inl z ↦ absurd (some (e ∙ z))
-        | inr lt ↦ omega (arith, name-within s n (omega arith))
-      ]
-
-  -- the name is all of what is copied, since it has no more than 24 bytes
-  name-whole : take 24 (take (n + len - n) (drop n s)) ≡ part s n (nameLength s n)
-  name-whole =
-      let d : n + len - n ≡ nameLength s n = omega arith in
-      let l : length (take (n + len - n) (drop n s)) ≤ 24 = omega (arith, length-take (n + len - n) (drop n s), name-most s n) in
-      take-all 24 _ l ∙ ap (λ (k : ℕ). take k (drop n s)) d
-
-  pub name-is : (x : Spelt) → text (x .name) ≡ take 24 (take (n + len - n) (drop n s)) → x .next ≡ n + len → NameAt s n x
-  name-is x t m = record {
-    some = ne-eqb _ _ (λ z. some (e ∙ z));
-    text = t ∙ name-whole;
-    next = m ∙ ap (λ (k : ℕ). n + k) e;
-    moves = omega arith;
-    within = omega (arith, name-ends);
-  }
+-- the name is all of what is copied, since it has no more than 24 bytes
+pub name-is : (s : List ℕ) (n : ℕ) (t : List ℕ) (p : Part s n (nameLength s n) t) (x : Spelt) → text (x .name) ≡ take 24 t → x .next ≡ n + length t → NameAt s n x
+name-is s n t p x e m =
+    let w : take 24 t ≡ t = take-all 24 t (omega (arith, p .long, name-most s n)) in
+    record {
+      some = ne-eqb _ _ (λ z. omega (arith, p .some));
+      text = e ∙ w ∙ p .is;
+      next = omega (arith, p .long);
+      moves = omega (arith, p .some, p .long);
+      within = omega (arith, p .within);
+    }
 
 -- INITIAL alone, whatever stands behind it
 pub initial-is : (x : Name) (xs : List Name) (words : List ℕ) → text x ≡ codes "INITIAL" → ((j : ℕ) → has words j ≡ eqb j 0) → _≡_ {A = grammar.Conditions} (record { names = map text (take 1 (x ∷ xs)); inclusive = has words }) onlyInitial

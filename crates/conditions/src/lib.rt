@@ -19,7 +19,8 @@ use grammar::Fault;
 use grammar::Named;
 use grammar::Refusal;
 use tokens::Kind;
-use tokens::name_length;
+use tokens::Token;
+use tokens::name_at;
 use tokens::passes;
 use tokens::span;
 use tokens::stands;
@@ -66,18 +67,16 @@ fn misfit(n: usize) -> Fault
 }
 
 // The name at n.
-fn name_at(s: &[u8], n: usize) -> Result<Spelt, Fault>
+fn spelt_at(s: &[u8], n: usize) -> Result<Spelt, Fault>
     ensures { λ r. ⌜ Cases r (NameAt (now (s .entry)) n) (NoName (now (s .entry)) n) ⌝ }
 {
-    let len = name_length(s, n);
-    if len == 0 {
-        return Err(misfit(n));
+    match name_at(s, n) {
+        Token::Name(text) => Ok(Spelt {
+            name: Name::of(text),
+            next: n + text.len(),
+        }),
+        Token::Number(_) | Token::Nothing => Err(misfit(n)),
     }
-    let next = n + len;
-    Ok(Spelt {
-        name: Name::of(&s[n..next]),
-        next,
-    })
 }
 
 // The conditions of the set, and k if it is inclusive.
@@ -151,7 +150,7 @@ impl Conditions {
         ensures small { λ r. ⌜ made r (λ k. k .condition < 8) ⌝ }
         ensures moves { λ r. ⌜ made r (λ k. (n < k .next) × (k .next ≤ length (now (s .entry)))) ⌝ }
     {
-        let spelt = name_at(s, n)?;
+        let spelt = spelt_at(s, n)?;
         match finder::find(&self.names, self.count, &spelt.name) {
             Some(k) => Ok(Named {
                 condition: k as u8,
@@ -203,7 +202,7 @@ impl Conditions {
         ensures is { λ r. ⌜ reads r ≡ declareAt (now (s .entry)) inclusive (known self) n ⌝ }
         ensures moves { λ r. ⌜ made r (λ d. (n < d .at) × (d .at ≤ length (now (s .entry)))) ⌝ }
     {
-        let spelt = name_at(s, n)?;
+        let spelt = spelt_at(s, n)?;
         let mut names = self.names;
         let count = self.count;
         match finder::find_or_add(&mut names, count, &spelt.name) {

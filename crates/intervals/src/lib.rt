@@ -10,7 +10,8 @@ use grammar::Bounds;
 use grammar::Fault;
 use grammar::Interval;
 use grammar::Refusal;
-use tokens::number;
+use tokens::Token;
+use tokens::number_at;
 use tokens::stands;
 
 fn refused(refusal: Refusal, place: usize) -> Fault
@@ -30,21 +31,23 @@ fn up_to(s: &[u8], m: usize, k: usize) -> Result<Bounds, Fault>
             next: k + 1,
         });
     }
-    let high = number(s, k, 2);
-    if high.digits == 0 {
-        return Err(refused(Refusal::Misfit, k));
+    match number_at(s, k, 2) {
+        Token::Number(digits) => {
+            let high = tokens::value(digits);
+            if high > 32 || high < m || high < 1 {
+                return Err(refused(Refusal::OutOfBounds, k));
+            }
+            let next = k + digits.len();
+            if !stands(s, next, b'}') {
+                return Err(refused(Refusal::Misfit, next));
+            }
+            Ok(Bounds {
+                interval: Interval::Between(m, high),
+                next: next + 1,
+            })
+        }
+        Token::Name(_) | Token::Nothing => Err(refused(Refusal::Misfit, k)),
     }
-    if high.value > 32 || high.value < m || high.value < 1 {
-        return Err(refused(Refusal::OutOfBounds, k));
-    }
-    let next = k + high.digits;
-    if !stands(s, next, b'}') {
-        return Err(refused(Refusal::Misfit, next));
-    }
-    Ok(Bounds {
-        interval: Interval::Between(m, high.value),
-        next: next + 1,
-    })
 }
 
 // What stands at k, behind the first bound m, which was read at n.
@@ -73,12 +76,14 @@ pub fn bounds(s: &[u8], n: usize) -> Result<Bounds, Fault>
     ensures moves { λ r. ⌜ Moves r n (length (now (s .entry))) ⌝ }
     ensures small { λ r. ⌜ made r (λ b. extra (b .interval) ≤ 32) ⌝ }
 {
-    let low = number(s, n, 2);
-    if low.digits == 0 {
-        return Err(refused(Refusal::Misfit, n));
+    match number_at(s, n, 2) {
+        Token::Number(digits) => {
+            let low = tokens::value(digits);
+            if low > 32 {
+                return Err(refused(Refusal::OutOfBounds, n));
+            }
+            behind_low(s, n, low, n + digits.len())
+        }
+        Token::Name(_) | Token::Nothing => Err(refused(Refusal::Misfit, n)),
     }
-    if low.value > 32 {
-        return Err(refused(Refusal::OutOfBounds, n));
-    }
-    behind_low(s, n, low.value, n + low.digits)
 }

@@ -2,9 +2,12 @@
 // name, and what the file has, or the number and the place of its first fault.
 use bits::Bits;
 use bits::PositionSet;
+
+mod escaped;
+
 use escaped::decode;
+use loaded::Loaded;
 use report::number_of;
-use rulefile::Loaded;
 use rulefile::WORK_SETS;
 use rulefile::read_rules;
 use std::error::AnyError;

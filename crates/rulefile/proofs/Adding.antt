@@ -3,24 +3,27 @@ use mathlib.Core.Path.{_≡_, refl, sym, ap, subst, _∙_}
 use mathlib.Core.Bool.{Bool, true, false, cond}
 use mathlib.Core.Logic.{_⊎_, inl, inr}
 use mathlib.Core.List.{List, [], _∷_, _++_}
-use Prim.Native.Nat.{ℕ, zero, suc, _+_, _-_, _<_, _≤_}
+use Prim.Native.Nat.{ℕ, suc, _+_, _≤_}
 use native.Mathlib.Omega.{arith}
 use lib.ListN.{length, take, set, replicate, length-append, length-set}
-use Rattle.std.specs.declared.result.Result.the-variants.{Ok, Err}
+use Rattle.std.specs.declared.result.Result.the-variants.{Err}
 use Rattle.positions.specs.Memory.{Work}
 use Rattle.grammar.specs.declared.Fault.{Fault}
 use Rattle.grammar.specs.Outcome.{Out, then}
 use Rattle.grammar.specs.Lines.{linesFrom, divides}
 use Rattle.grammar.specs.Conditions.{Conditions}
 use Rattle.grammar.specs.File as file
-use Rattle.grammar.specs.File.{RuleText, secondSection, ruleLine, ruleFile, allPositions}
-use Rattle.rulefile.specs.declared.Loaded.{Loaded}
+use Rattle.grammar.specs.File.{RuleText, secondSection, ruleLine, ruleFile, allPositions, sections}
+use Rattle.conditions.specs.Known.{known}
+use Rattle.loaded.specs.declared.Loaded.{Loaded}
+use Rattle.loaded.specs.declared.Rule.{Rule}
+use Rattle.loaded.specs.Zeros.{zeros, noRule}
+use Rattle.rulefile.specs.declared.FirstSection.{FirstSection}
 use Rattle.rulefile.specs.declared.Progress.{Progress}
-use Rattle.rulefile.specs.declared.Rule.{Rule}
 use Rattle.rulefile.specs.declared.TextLine.{TextLine}
-use Rattle.rulefile.specs.Machine.{RulesLaid, RulesKept, PatternLaid}
-use Rattle.rulefile.specs.Loaded.{RulesHold, zeros, noRule}
-use Rattle.rulefile.specs.Sections.{Enough, lineOf, Next, SoFar, Added, Gone}
+use Rattle.rulefile.specs.Machine.{RulesKept, PatternLaid}
+use Rattle.rulefile.specs.Loaded.{RulesHold}
+use Rattle.rulefile.specs.Sections.{Enough, lineOf, Next, FirstRead, SoFar, Added, Gone, FileRead}
 use Rattle.rulefile.proofs.Rules.{laid-more, size-more, holds-more}
 
 -- the rules that are read up to `next`, and what of the whole section is left
@@ -41,7 +44,7 @@ pub adding-start : (text : List ℕ) (from : ℕ) (c : Conditions) (w : Work) (l
 adding-start text from c w l = record {
   rules = [];
   few = inl (omega arith);
-  so-far = record { count = refl; few = omega arith; used = refl; laid = tt; room = λ e. zero-rules l e .0; holds = λ e. zero-rules l e .1 };
+  so-far = record { count = refl; few = omega arith; used = refl; laid = tt; room = λ e. zero-rules l e .0; holds = λ e. zero-rules l e .1; starts = refl; trails = refl; row-count = refl };
   left = λ k e. (k, e, refl);
 }
 
@@ -69,6 +72,9 @@ more qs w w′ l₀ l l′ p p′ s c at f a =
       room = λ e. ap length rules-is ∙ length-set (l .rules) (length qs) (a .read .rule) ∙ f .room e;
       holds = λ e. subst (λ (rs : List Rule). RulesHold rs (qs ++ (q ∷ []))) (sym rules-is)
           (holds-more (l .rules) qs (a .read .rule) q (f .holds e) (omega (arith, f .room e, a .line .few, i)) (a .line .holds));
+      starts = a .starts ∙ f .starts;
+      trails = a .trails ∙ f .trails;
+      row-count = a .row-count ∙ f .row-count;
     }
 
 module _ (text : List ℕ) (from : ℕ) (c : Conditions) (w : Work) (l₀ l : Loaded) (p : Progress) (next : ℕ) (t : TextLine) (a : Adding text from c w l₀ l p next) (n : Next text next t) where
@@ -120,3 +126,32 @@ adding-ends text from c w l₀ l p next a none = record {
   is = λ k e. let r = a .left k e in r .2 ∙ ap (secondSection text c (a .rules) (p .positions)) (none (r .0) (r .1));
   so-far = a .so-far;
 }
+
+zero-rows : (l : Loaded) → l ≡ zeros → l .«row_count» ≡ 0
+unfolding zeros
+zero-rows l e = ap (λ (x : Loaded). x .«row_count») e
+
+-- both sections are the file, in loaded memory that was zeros
+pub file-reads : (text : List ℕ) (f : FirstSection) (w : Work) (l₀ l : Loaded) (p : Progress) (n : ℕ)
+    → FirstRead text f → Gone text (f .next) (known (f .conditions)) w l₀ l p → n ≡ length (known (f .conditions) .names) → l₀ ≡ zeros
+    → FileRead (sections text) w
+    (record { rules = l .rules; starts = l .starts; trails = l .trails; «rule_count» = p .rules; «condition_count» = n; «row_count» = l .«row_count» })
+    (record { rules = p .rules; conditions = n; positions = p .positions })
+file-reads text f w l₀ l p n r g n-is e =
+    let so = g .so-far in
+    record {
+      file = record { conditions = known (f .conditions); rules = g .rules; used = p .positions };
+      is = ap (λ (o : Out file.FirstSection). then o (λ x. secondSection text (x .conditions) [] 0 (x .behind))) (r .is) ∙ g .is (r .turns) (r .enough);
+      holds = record {
+        rules = so .holds e;
+        rule-count = so .count;
+        condition-count = n-is;
+        starts = so .starts ∙ ap (λ (x : Loaded). x .starts) e;
+        trails = so .trails ∙ ap (λ (x : Loaded). x .trails) e;
+        row-count = so .row-count ∙ zero-rows l₀ e;
+      };
+      laid = so .laid;
+      rules = so .count;
+      conditions = n-is;
+      positions = refl;
+    }

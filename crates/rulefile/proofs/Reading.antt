@@ -2,23 +2,22 @@
 use mathlib.Core.Path.{_≡_, refl, sym, ap, subst, _∙_}
 use mathlib.Core.Bool.{Bool, true, false, cond}
 use mathlib.Core.Logic.{_⊎_, inl, inr}
-use mathlib.Core.List.{List, [], _∷_, _++_}
+use mathlib.Core.List.{List, [], _∷_}
 use Prim.Native.Nat.{ℕ, zero, suc, _+_, _-_, _<_, _≤_, min, _^_}
 use native.Mathlib.Omega.{arith}
-use lib.Dec.{eqb, ltb, leb}
-use lib.ListN.{length, getD, take, drop}
+use lib.ListN.{length, take, drop}
 use Rattle.std.specs.declared.result.Result.the-variants.{Ok, Err}
-use Rattle.std.proofs.shelf.Tests.{lt-ltb, le-ltb, cases-lt, cases-bool}
-use Rattle.grammar.specs.Bytes.{blank, passes, span}
+use Rattle.std.proofs.shelf.Tests.{lt-ltb, le-ltb}
+use Rattle.grammar.specs.Bytes.{passes, span}
 use Rattle.grammar.specs.declared.Fault.{Fault}
 use Rattle.grammar.specs.declared.Refusal.the-variants.{Misfit}
 use Rattle.grammar.specs.Outcome.{Out, refused, then}
-use Rattle.grammar.specs.Lines.{Line, linesFrom, lineEnd, nextLine, prepend, lines, divides}
+use Rattle.grammar.specs.Lines.{linesFrom, lineEnd, nextLine, prepend, lines, divides}
 use Rattle.grammar.specs.Conditions.{Conditions, onlyInitial, declaration}
 use Rattle.grammar.specs.File.{firstSection}
-use Rattle.tokens.proofs.Items.{passes-below, span-each, span-there, line-next, line-from, line-within, next-within}
+use Rattle.tokens.proofs.Items.{passes-below, span-each, line-next, line-within, next-within}
 use Rattle.rulefile.specs.declared.TextLine.{TextLine}
-use Rattle.rulefile.specs.Sections.{Enough, lineOf, Next, NextLine}
+use Rattle.rulefile.specs.Sections.{Enough, lineOf, Next}
 
 -- no byte in a row passes, so the first does not
 pub span-none : (t : ℕ → Bool) (s : List ℕ) (n : ℕ) → span t (length s) s n ≡ 0 → passes t s n ≡ false

@@ -2,35 +2,34 @@
 use mathlib.Core.Path.{_≡_, refl, sym, ap, subst, _∙_}
 use mathlib.Core.Bool.{Bool, true, false, cond}
 use mathlib.Core.List.{List, [], _∷_, _++_}
-use Prim.Native.Nat.{ℕ, zero, suc, _+_, _-_, _<_, _≤_}
+use Prim.Native.Nat.{ℕ, suc, _+_, _-_, _<_, _≤_}
 use native.Mathlib.Omega.{arith}
-use lib.Dec.{ltb}
-use lib.ListN.{length, take, drop, replicate, set, getD, take-append-drop}
+use lib.ListN.{length, replicate, set, take-append-drop}
 use Rattle.std.specs.declared.result.Result.{Result}
 use Rattle.std.specs.declared.result.Result.the-variants.{Ok, Err}
 use Rattle.std.proofs.shelf.Lists.{length-take}
 use Rattle.bits.specs.Set.{has}
-use Rattle.positions.specs.Memory.{Work, member}
+use Rattle.positions.specs.Memory.{Work}
 use Rattle.grammar.specs.declared.Fault.{Fault}
-use Rattle.grammar.specs.declared.Refusal.the-variants.{Misfit, LimitPassed}
+use Rattle.grammar.specs.declared.Refusal.the-variants.{Misfit}
 use Rattle.grammar.specs.declared.Step.{Step}
 use Rattle.grammar.specs.declared.Step.the-variants.{Nothing}
 use Rattle.grammar.specs.Outcome.{Out, refused, then}
 use Rattle.grammar.specs.Bytes.{stands, passes, blank, span}
-use Rattle.grammar.specs.Conditions.{Conditions, Picked, activeAt}
+use Rattle.grammar.specs.Conditions.{Conditions, Picked}
 use Rattle.grammar.specs.Actions.{actionAt}
 use Rattle.grammar.specs.File as file
-use Rattle.grammar.specs.File.{RuleText, ruleSize, allPositions, patternAt, behindPattern, behindActive, ruleOf, ruleLine, startsRule}
+use Rattle.grammar.specs.File.{RuleText, ruleSize, allPositions, patternAt, behindPattern, behindActive, ruleOf}
 use Rattle.conditions.specs.declared.Picked as code
 use Rattle.conditions.specs.Known.{picked}
 use Rattle.actions.specs.declared.Steps.{Steps}
 use Rattle.actions.specs.Steps.{taken, Padded}
+use Rattle.loaded.specs.declared.Rule.{Rule}
 use Rattle.rulefile.specs.declared.Pattern.{Pattern}
-use Rattle.rulefile.specs.declared.Rule.{Rule}
 use Rattle.rulefile.specs.declared.RuleRead.{RuleRead}
-use Rattle.rulefile.specs.Machine.{PatternLaid, RulesLaid, RulesKept, patternSize}
+use Rattle.rulefile.specs.Machine.{PatternLaid, RulesLaid, RulesKept}
 use Rattle.rulefile.specs.Marks.{PatternRead}
-use Rattle.rulefile.specs.Loaded.{noRule, RuleHolds, RulesHold}
+use Rattle.rulefile.specs.Loaded.{RuleHolds, RulesHold}
 use Rattle.rulefile.specs.Sections.{stepsBehind, LineRead, LineGives}
 
 abbrev pub started : List ℕ → ℕ → ℕ
@@ -69,7 +68,7 @@ module _ (s : List ℕ) (c : Conditions) (u k : ℕ) (w w′ : Work) (a : code.P
 
   pub body-reads : (t : Steps) (b : Bool) (q : PatternRead (patternAt s (started s (a .next)) (u + 1)) u k w w′ p) → k < 64 → b ≡ stands s (a .next) 94
       → Ok (taken t) ≡ stepsBehind s c (p .at) → length (t .list) ≡ 10 → Padded t
-      → LineRead (behindActive s c u (picked a)) u k w w′ (record { rule = record { conditions = a .conditions; anchored = b; trailing = p .trailing; steps = t .list }; used = p .used })
+      → LineRead (behindActive s c u (picked a)) u k w w′ (record { rule = record { conditions = a .conditions; anchored = b; steps = t .list }; used = p .used })
   body-reads t b q few b-is e len pad =
       let made : RuleText = record { active = has (a .conditions .words); anchored = stands s (a .next) 94; expression = q .pattern .expression; trailing = q .pattern .trailing; steps = taken t } in
       record {
@@ -82,7 +81,7 @@ module _ (s : List ℕ) (c : Conditions) (u k : ℕ) (w w′ : Work) (a : code.P
             ∙ ap (λ (o : Out (List Step)). then o (ruleOf (picked a) (stands s (a .next) 94) (q .pattern))) (sym e)
             ∙ ap (λ (n : ℕ). Ok (record { rule = made; used = n })) (sym (q .used));
         few = few;
-        holds = record { active = λ n. refl; anchored = b-is; trailing = q .trailing; steps = padded-steps t len pad };
+        holds = record { active = λ n. refl; anchored = b-is; steps = padded-steps t len pad };
         counts = q .counts;
         laid = q .joined .laid;
         kept = q .joined .kept;
@@ -100,6 +99,8 @@ pattern-kept w w′ a i b j q l k h lt = record {
   order = λ p n c d. k .order p n (omega arith) ∙ l .order p n c d;
   starts = λ n. k .starts i n lt ∙ l .starts n;
   trails = λ n. k .trails i n lt ∙ l .trails n;
+  ends = λ n. k .ends i n lt ∙ l .ends n;
+  slashes = λ n. k .slashes i n lt ∙ l .slashes n;
 }
 
 -- and one more is laid down behind them

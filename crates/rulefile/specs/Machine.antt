@@ -1,6 +1,6 @@
 -- The positions of a pattern r, with a trailing part x or none: its end mark at a, the positions of r behind it, and for x a slash mark and the positions of x.
 use mathlib.Core.Path.{_≡_}
-use mathlib.Core.Bool.{Bool, true, false, _&&_, _||_}
+use mathlib.Core.Bool.{Bool, false, _&&_, _||_}
 use mathlib.Core.List.{List, [], _∷_}
 use Prim.Native.Nat.{ℕ, suc, _+_, _<_, _≤_}
 use lib.Dec.{eqb}
@@ -46,13 +46,20 @@ patternAfter r x a p q =
 abbrev pub patternSize : Expression → Option Expression → ℕ
 patternSize r x = 1 + (size r + trailingSize x)
 
--- the work memory has them, and in the sets of rule i, counted from 0, the first positions of r and the trail start
+-- the slash mark d is a position if there is an x
+abbrev pub slashOf : Option Expression → ℕ → ℕ → Bool
+slashOf None d q = false
+slashOf (Some x) d q = eqb q d
+
+-- the work memory has them, and in the sets of rule i, counted from 0, the first positions of r, the trail start, the end mark and the slash mark
 pub record PatternLaid (w : Work) (r : Expression) (x : Option Expression) (a i : ℕ) : Type 0 where
   pub within : a + patternSize r x ≤ 512
   pub bytes : (p b : ℕ) → a ≤ p → p < a + patternSize r x → b < 256 → member w p b ≡ patternTakes r x a p b
   pub order : (p q : ℕ) → a ≤ p → p < a + patternSize r x → member w (512 + p) q ≡ patternAfter r x a p q
   pub starts : (q : ℕ) → member w (1024 + i) q ≡ first r (a + 1) q
   pub trails : (q : ℕ) → member w (1088 + i) q ≡ trailStart x a (slash r a + 1) q
+  pub ends : (q : ℕ) → member w (1152 + i) q ≡ eqb q a
+  pub slashes : (q : ℕ) → member w (1216 + i) q ≡ slashOf x (slash r a) q
 
 -- the rules one behind another, from rule i and position a on
 abbrev pub RulesLaid : Work → ℕ → ℕ → List RuleText → Type 0
@@ -65,3 +72,5 @@ pub record RulesKept (a i : ℕ) (w w′ : Work) : Type 0 where
   pub order : (p q : ℕ) → p < a → member w′ (512 + p) q ≡ member w (512 + p) q
   pub starts : (j q : ℕ) → j < i → member w′ (1024 + j) q ≡ member w (1024 + j) q
   pub trails : (j q : ℕ) → j < i → member w′ (1088 + j) q ≡ member w (1088 + j) q
+  pub ends : (j q : ℕ) → j < i → member w′ (1152 + j) q ≡ member w (1152 + j) q
+  pub slashes : (j q : ℕ) → j < i → member w′ (1216 + j) q ≡ member w (1216 + j) q

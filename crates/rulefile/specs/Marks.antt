@@ -1,11 +1,8 @@
 -- What the functions that lay down a rule's pattern say.
 use mathlib.Core.Path.{_≡_}
-use mathlib.Core.Bool.{Bool, true, false}
-use mathlib.Core.List.{List}
+use mathlib.Core.Bool.{false}
 use Prim.Native.Nat.{ℕ, _+_, _<_, _≤_}
-use lib.Dec.{eqb}
 use Rattle.std.specs.declared.option.Option.{Option}
-use Rattle.std.specs.declared.option.Option.the-variants.{Some, None}
 use Rattle.std.specs.declared.result.Result.{Result}
 use Rattle.std.specs.declared.result.Result.the-variants.{Ok, Err}
 use Rattle.patterns.specs.Expression.{Expression}
@@ -43,16 +40,11 @@ pub record Joined (a i : ℕ) (w w′ : Work) (r : Expression) (x : Option Expre
   pub laid : PatternLaid w′ r x a i
   pub kept : RulesKept a i w w′
 
-abbrev pub has-trailing : Option Expression → Bool
-has-trailing None = false
-has-trailing (Some x) = true
-
 pub record PatternRead (o : Out file.Pattern) (a i : ℕ) (w w′ : Work) (p : Pattern) : Type 0 where
   pub pattern : file.Pattern
   pub is : o ≡ Ok pattern
   pub at : p .at ≡ pattern .at
   pub used : p .used ≡ pattern .used
-  pub trailing : p .trailing ≡ has-trailing (pattern .trailing)
   pub counts : p .used ≡ a + patternSize (pattern .expression) (pattern .trailing)
   pub joined : Joined a i w w′ (pattern .expression) (pattern .trailing)
 

@@ -1,8 +1,8 @@
 -- What the functions that read lines and sections say.
 use mathlib.Core.Path.{_≡_}
-use mathlib.Core.Bool.{Bool, true, false, cond}
+use mathlib.Core.Bool.{cond}
 use mathlib.Core.List.{List, [], _∷_}
-use Prim.Native.Nat.{ℕ, zero, suc, _+_, _<_, _≤_}
+use Prim.Native.Nat.{ℕ, suc, _+_, _<_, _≤_}
 use lib.ListN.{length, set}
 use Rattle.std.specs.declared.option.Option.{Option}
 use Rattle.std.specs.declared.option.Option.the-variants.{Some, None}
@@ -12,7 +12,7 @@ use Rattle.positions.specs.Memory.{Work}
 use Rattle.grammar.specs.declared.Fault.{Fault}
 use Rattle.grammar.specs.declared.Refusal.the-variants.{Memory, FileTooLong, Misfit}
 use Rattle.grammar.specs.declared.Step.{Step}
-use Rattle.grammar.specs.Outcome.{Out, fault, refused}
+use Rattle.grammar.specs.Outcome.{Out, refused}
 use Rattle.grammar.specs.Bytes.{blank, passes, span}
 use Rattle.grammar.specs.Lines as lines
 use Rattle.grammar.specs.Conditions.{Conditions, onlyInitial}
@@ -20,14 +20,15 @@ use Rattle.grammar.specs.Actions.{actionAt}
 use Rattle.grammar.specs.File as file
 use Rattle.grammar.specs.File.{RuleText, RuleFile, ruleSize, ruleFileOf}
 use Rattle.conditions.specs.Known.{known}
+use Rattle.loaded.specs.declared.Loaded.{Loaded}
+use Rattle.loaded.specs.Zeros.{zeros}
 use Rattle.rulefile.specs.declared.RuleRead.{RuleRead}
 use Rattle.rulefile.specs.declared.FirstSection.{FirstSection}
 use Rattle.rulefile.specs.declared.TextLine.{TextLine}
 use Rattle.rulefile.specs.declared.Progress.{Progress}
 use Rattle.rulefile.specs.declared.Counts.{Counts}
-use Rattle.rulefile.specs.declared.Loaded.{Loaded}
 use Rattle.rulefile.specs.Machine.{PatternLaid, RulesLaid, RulesKept}
-use Rattle.rulefile.specs.Loaded.{RuleHolds, RulesHold, Holds, zeros}
+use Rattle.rulefile.specs.Loaded.{RuleHolds, RulesHold, Holds}
 
 -- blanks, at least one, and the action
 abbrev pub stepsBehind : List ℕ → Conditions → ℕ → Out (List Step)
@@ -85,12 +86,18 @@ pub record SoFar (qs : List RuleText) (w : Work) (l₀ l : Loaded) (p : Progress
   pub laid : RulesLaid w 0 0 qs
   pub room : l₀ ≡ zeros → length (l .rules) ≡ 64
   pub holds : l₀ ≡ zeros → RulesHold (l .rules) qs
+  pub starts : l .starts ≡ l₀ .starts
+  pub trails : l .trails ≡ l₀ .trails
+  pub row-count : l .«row_count» ≡ l₀ .«row_count»
 
 -- one more rule, in the place behind those so far
 pub record Added (s : List ℕ) (c : Conditions) (at : ℕ) (done : Progress) (w w′ : Work) (l l′ : Loaded) (p : Progress) : Type 0 where
   pub read : RuleRead
   pub line : LineRead (file.ruleLine s c (done .rules) at (done .positions)) (done .positions) (done .rules) w w′ read
   pub rules : l′ .rules ≡ set (l .rules) (done .rules) (read .rule)
+  pub starts : l′ .starts ≡ l .starts
+  pub trails : l′ .trails ≡ l .trails
+  pub row-count : l′ .«row_count» ≡ l .«row_count»
   pub next : p ≡ record { rules = done .rules + 1; positions = read .used }
 
 abbrev pub Adds : List ℕ → Conditions → ℕ → Progress → Work → Work → Loaded → Loaded → Result Progress Fault → Type 0

@@ -1,8 +1,8 @@
 // Rule files: read whole into lent memory, or turned down with a number and a place.
 ghost use mathlib.Core.Path.{_≡_};
-ghost use mathlib.Core.Bool.{false, true, cond};
+ghost use mathlib.Core.Bool.{false, cond};
 ghost use Prim.Native.Nat.{ℕ, _+_, _<_, _≤_};
-ghost use lib.ListN.{length, getD};
+ghost use lib.ListN.{length};
 ghost use Rattle.std.specs.Vec.{made};
 ghost use Rattle.std.specs.declared.option.Option.the-variants.{Some, None};
 ghost use Rattle.patterns.specs.Expression.{Expression};
@@ -11,18 +11,17 @@ ghost use Rattle.expressions.specs.Frames.{Outside};
 ghost use Rattle.expressions.specs.Lays.{Moves as ParsedMoves};
 ghost use Rattle.conditions.specs.Known.{known, picked as pickedOf};
 ghost use Rattle.actions.specs.Steps.{does, Padded};
+ghost use Rattle.loaded.specs.Zeros.{zeros as zerosOf};
 ghost use Rattle.grammar.specs.Outcome.{fault as faultOf};
 ghost use Rattle.grammar.specs.Bytes.{stands as standsAt};
 ghost use Rattle.grammar.specs.Lines.{divides as dividesAt};
 ghost use Rattle.grammar.specs.Expressions.{alternationAt};
 ghost use Rattle.grammar.specs.File.{newline as newlineOf, patternAt, startsRule, behindActive, ruleLine};
-ghost use Rattle.rulefile.specs.Marks.{Unjoined, MarkedRead, MarkedGives, Joined, PatternGives, Moves};
-ghost use Rattle.rulefile.specs.Loaded.{noRule, zeros as zerosOf};
+ghost use Rattle.rulefile.specs.Marks.{Unjoined, MarkedGives, Joined, PatternGives, Moves};
 ghost use Rattle.rulefile.specs.Sections.{stepsBehind, LineGives, NextLine, lineOf, FirstGives, Adds, Goes, FileReads, Answers};
 use actions::Steps;
 use actions::action;
 use bits::Bits;
-use bits::ConditionSet;
 use bits::PositionSet;
 use conditions::Conditions;
 use conditions::Picked;
@@ -30,7 +29,8 @@ use expressions::Parsed;
 use expressions::expression;
 use grammar::Fault;
 use grammar::Refusal;
-use grammar::Step;
+use loaded::Loaded;
+use loaded::Rule;
 use positions::POSITIONS;
 use positions::leaf;
 use positions::link;
@@ -45,30 +45,17 @@ pub const FILE_BYTES: usize = 8192;
 pub const RULES: usize = 64;
 
 // The sets of the work memory, 32,768 words of 64 bits in all: the bytes of each position, the positions that may follow
-// it, then for each rule the positions that it begins with, and those that its trailing part begins with.
+// it, then for each rule the positions that it begins with, those that its trailing part begins with, its end mark, and
+// its slash mark.
 pub const WORK_SETS: usize = 4096;
 
 pub const FIRSTS: usize = 1024;
 
 pub const TRAILS: usize = 1088;
 
-// A rule as it is kept: the conditions in which it is active, whether it asks for line start, whether it has a trailing
-// part, and its steps.
-#[derive(Clone, Copy)]
-pub struct Rule {
-    pub conditions: ConditionSet,
-    pub anchored: bool,
-    pub trailing: bool,
-    pub steps: [Step; 10],
-}
+pub const ENDS: usize = 1152;
 
-// What is kept of a rule file, with zeros where there is no rule.
-#[derive(Clone, Copy)]
-pub struct Loaded {
-    pub rules: [Rule; 64],
-    pub rule_count: usize,
-    pub condition_count: usize,
-}
+pub const SLASHES: usize = 1216;
 
 // How much a right file has.
 #[derive(Clone, Copy)]
@@ -78,10 +65,9 @@ pub struct Counts {
     pub positions: usize,
 }
 
-// r and what may stand behind it: whether there is a trailing part, the place behind both, and the positions used then.
+// r and what may stand behind it: the place behind both, and the positions used then.
 #[derive(Clone, Copy)]
 struct Pattern {
-    trailing: bool,
     at: usize,
     used: usize,
 }
@@ -164,7 +150,7 @@ fn marked_newline(work: &mut [PositionSet], at: usize, p: usize) -> Parsed
     }
 }
 
-// Behind the last positions of r comes the end mark.
+// Behind the last positions of r comes the end mark; there is no slash mark.
 fn without_trailing(work: &mut [PositionSet], k: usize, end: usize, r: &Parsed)
     requires { ⌜ k < 64 ⌝ ∗ ⌜ end < 512 ⌝ ∗ ⌜ 4096 ≤ length (now work) ⌝ }
     ensures { λ _. ⌜ ((e : Expression) → Unjoined (now (work .entry)) end e (now (r .entry)) → Joined end k (now (work .entry)) (now (work .exit)) e None) ⌝ }
@@ -172,8 +158,11 @@ fn without_trailing(work: &mut [PositionSet], k: usize, end: usize, r: &Parsed)
     let mut ends = Bits::empty();
     ends.insert(end);
     link(work, &r.part.last, &ends);
+    let none = Bits::empty();
     work[FIRSTS + k] = r.part.first;
-    work[TRAILS + k] = Bits::empty();
+    work[TRAILS + k] = none;
+    work[ENDS + k] = ends;
+    work[SLASHES + k] = none;
 }
 
 // Behind the last positions of r come the slash mark and the trail start, and behind those of x the end mark.
@@ -183,6 +172,8 @@ fn with_trailing(work: &mut [PositionSet], k: usize, end: usize, r: &Parsed, x: 
 {
     let mut ends = Bits::empty();
     ends.insert(end);
+    let mut slashes = Bits::empty();
+    slashes.insert(r.used);
     let mut trail = x.part.first;
     if x.part.nullable {
         trail.insert(end);
@@ -193,14 +184,15 @@ fn with_trailing(work: &mut [PositionSet], k: usize, end: usize, r: &Parsed, x: 
     link(work, &x.part.last, &ends);
     work[FIRSTS + k] = r.part.first;
     work[TRAILS + k] = trail;
+    work[ENDS + k] = ends;
+    work[SLASHES + k] = slashes;
 }
 
 // What ends where its trailing part x does.
 fn trailed(x: &Parsed) -> Pattern
-    ensures { λ r. ⌜ r ≡ record { trailing = true; at = now (x .entry) .at; used = now (x .entry) .used } ⌝ }
+    ensures { λ r. ⌜ r ≡ record { at = now (x .entry) .at; used = now (x .entry) .used } ⌝ }
 {
     Pattern {
-        trailing: true,
         at: x.at,
         used: x.used,
     }
@@ -237,35 +229,9 @@ fn pattern_at(
     }
     without_trailing(work, k, end, &r);
     Ok(Pattern {
-        trailing: false,
         at: r.at,
         used: r.used,
     })
-}
-
-// A place in the loaded memory that no rule takes.
-fn no_rule() -> Rule
-    ensures { λ r. ⌜ r ≡ noRule ⌝ }
-{
-    Rule {
-        conditions: Bits::empty(),
-        anchored: false,
-        trailing: false,
-        steps: [Step::Nothing; 10],
-    }
-}
-
-impl Loaded {
-    // All zeros: no rules, and no conditions.
-    pub fn zeros() -> Loaded
-        ensures { λ r. ⌜ r ≡ zerosOf ⌝ }
-    {
-        Loaded {
-            rules: [no_rule(); 64],
-            rule_count: 0,
-            condition_count: 0,
-        }
-    }
 }
 
 // Whether a rule line may begin with this byte.
@@ -319,7 +285,6 @@ fn rule_body(
         rule: Rule {
             conditions: active.conditions,
             anchored,
-            trailing: pattern.trailing,
             steps,
         },
         used: pattern.used,

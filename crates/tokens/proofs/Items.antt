@@ -174,18 +174,6 @@ number-two s n = number-below 2 s n
 pub number-four : (s : List ℕ) (n : ℕ) → number 4 s n < 10000
 number-four s n = number-below 4 s n
 
--- a turn of the loop over at most four digits, of which k are read
-pub record Turn (s : List ℕ) (n k v : ℕ) : Type 0 where
-  pub here : DigitAt s (n + k)
-  pub small : v < 10000
-
-pub digit-turn : (s : List ℕ) (m n k d v : ℕ) → d ≡ digits m s n → m ≤ 4 → k < d → v ≡ value s n k → Turn s n k v
-digit-turn s m n k d v e le lt w =
-    let ten : 0 < 10 = omega arith in
-    let four : k ≤ 4 = omega (arith, span-most digit s m n) in
-    let a = value-below s n k (λ i less. digits-each s m n i (omega arith) .most) in
-    record { here = digits-each s m n k (omega arith); small = omega (arith, a, pow-le-pow-right ten four) }
-
 pub literal-fails : (s : List ℕ) (b : ℕ) (bs : List ℕ) (n : ℕ) → false ≡ stands s n b → literal (b ∷ bs) s n ≡ refused Misfit n
 literal-fails s b bs n e = rw (sym e)
 

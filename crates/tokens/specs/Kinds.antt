@@ -1,4 +1,4 @@
--- The kinds of bytes, and what a number and a line are read as.
+-- The kinds of bytes.
 use mathlib.Core.Bool.{Bool}
 use Prim.Native.Nat.{ℕ}
 use Rattle.tokens.specs.declared.Kind.{Kind}

@@ -1,10 +1,12 @@
 // The smallest items of a rule file: bytes of a kind, names, numbers, fixed words, and lines without their trailing blanks.
 ghost use mathlib.Core.Path.{_≡_};
-ghost use Prim.Native.Nat.{_+_, _-_, _^_, _<_, _≤_, min};
+ghost use mathlib.Core.List.{List};
+ghost use Prim.Native.Nat.{ℕ, _+_, _-_, _^_, _<_, _≤_, min};
 ghost use lib.ListN.{length};
-ghost use Rattle.grammar.specs.Bytes.{stands as standsAt, passes as passesAt, span as spanAt, nameLength, digits as digitsAt, number as numberAt, literal as literalAt};
+ghost use Rattle.grammar.specs.Bytes.{stands as standsAt, passes as passesAt, span as spanAt, part, nameLength, digits as digitsAt, number as numberAt, literal as literalAt};
 ghost use Rattle.grammar.specs.Lines.{lineEnd, nextLine, trimmed as trimmedAt};
 ghost use Rattle.tokens.specs.Kinds.{holds};
+ghost use Rattle.tokens.specs.Parts.{NameAt, NumberAt, valueOf};
 use grammar::Fault;
 use grammar::Refusal;
 
@@ -17,11 +19,12 @@ pub enum Kind {
     LineByte,
 }
 
-// A number as it is written: how many digits, and their value.
+// An item of a rule file, which is a part of the file itself.
 #[derive(Clone, Copy)]
-pub struct Numeral {
-    pub digits: usize,
-    pub value: usize,
+pub enum Token<'a> {
+    Name(&'a [u8]),
+    Number(&'a [u8]),
+    Nothing,
 }
 
 // Where a line ends without its trailing blanks, and where the next one starts.
@@ -72,7 +75,7 @@ pub fn span(s: &[u8], n: usize, most: usize, kind: Kind) -> usize
 }
 
 // How long the name at n is; 0 where there is none.
-pub fn name_length(s: &[u8], n: usize) -> usize
+fn name_length(s: &[u8], n: usize) -> usize
     ensures { λ r. ⌜ r ≡ nameLength (now (s .entry)) n ⌝ }
 {
     if !passes(s, n, Kind::NameStart) {
@@ -81,17 +84,38 @@ pub fn name_length(s: &[u8], n: usize) -> usize
     1 + span(s, n + 1, 23, Kind::NameByte)
 }
 
-// The number at n, of at most `most` digits, and never more than four.
-pub fn number(s: &[u8], n: usize, most: usize) -> Numeral
-    ensures digits { λ r. ⌜ r .digits ≡ digitsAt (min most 4) (now (s .entry)) n ⌝ }
-    ensures value { λ r. ⌜ r .value ≡ numberAt (min most 4) (now (s .entry)) n ⌝ }
+// The name at n: its longest part that fits, at most 24 bytes.
+pub fn name_at<'a>(s: &'a [u8], n: usize) -> Token<'a>
+    ensures { λ r. ⌜ NameAt (now (s .entry)) n r ⌝ }
 {
-    let digits = span(s, n, most.min(4), Kind::Digit);
-    let mut value = 0;
-    for k in 0..digits {
-        value = value * 10 + (s[n + k] - b'0') as usize;
+    let long = name_length(s, n);
+    if long == 0 {
+        return Token::Nothing;
     }
-    Numeral { digits, value }
+    Token::Name(&s[n..n + long])
+}
+
+// The number at n: its digits, at most `most` of them and never more than four.
+pub fn number_at<'a>(s: &'a [u8], n: usize, most: usize) -> Token<'a>
+    ensures { λ r. ⌜ NumberAt (min most 4) (now (s .entry)) n r ⌝ }
+{
+    let long = span(s, n, most.min(4), Kind::Digit);
+    if long == 0 {
+        return Token::Nothing;
+    }
+    Token::Number(&s[n..n + long])
+}
+
+// The value of decimal digits, of the first four at most; a byte below `0` counts as 0.
+pub fn value(digits: &[u8]) -> usize
+    ensures is { λ r. ⌜ r ≡ valueOf (now (digits .entry)) ⌝ }
+    ensures number { λ r. ⌜ ((s : List ℕ) (n k : ℕ) → k ≤ 4 → now (digits .entry) ≡ part s n (digitsAt k s n) → r ≡ numberAt k s n) ⌝ }
+{
+    let mut value = 0;
+    for k in 0..digits.len().min(4) {
+        value = value * 10 + digits[k].saturating_sub(b'0') as usize;
+    }
+    value
 }
 
 // The place behind these bytes, where they stand at n.

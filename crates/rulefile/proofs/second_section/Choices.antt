@@ -1,4 +1,4 @@
-use Prim.Native.Nat.{suc, _-_, _≤_}
+use Prim.Native.Nat.{suc, _-_}
 use lib.ListN.{length}
 use Rattle.conditions.specs.Known.{known}
 use Rattle.rulefile.proofs.Adding.{Adding}

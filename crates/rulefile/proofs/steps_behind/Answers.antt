@@ -1,14 +1,12 @@
-use mathlib.Core.Path.{_≡_, refl, sym, ap, _∙_}
+use mathlib.Core.Path.{sym, ap, _∙_}
 use mathlib.Core.Bool.{Bool, cond}
 use Prim.Native.Nat.{ℕ, _<_, _+_}
-use mathlib.Core.List.{List}
 use native.Mathlib.Omega.{arith}
 use lib.ListN.{length}
 use Rattle.std.specs.declared.result.Result.the-variants.{Err}
 use Rattle.grammar.specs.declared.Fault.{Fault}
-use Rattle.grammar.specs.declared.Step.{Step}
 use Rattle.grammar.specs.declared.Refusal.the-variants.{Misfit}
-use Rattle.grammar.specs.Outcome.{Out, refused}
+use Rattle.grammar.specs.Outcome.{refused}
 use Rattle.grammar.specs.Bytes.{blank, span}
 use Rattle.grammar.specs.Actions.{actionAt}
 use Rattle.conditions.specs.Known.{known}

@@ -1,0 +1,4 @@
+pub mod Members
+pub mod Meeting
+pub mod Alike
+pub mod Rows

@@ -1,0 +1,4 @@
+pub mod Sets
+pub mod Automaton
+pub mod Numbering
+pub mod Theorems

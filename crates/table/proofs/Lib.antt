@@ -1,0 +1,5 @@
+pub mod Active
+pub mod Initial
+pub mod Kept
+pub mod Marks
+pub mod Past
