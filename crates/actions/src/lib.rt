@@ -1,4 +1,6 @@
 // Actions: `;` alone, or one or more steps.
+#![tactic(auto)]
+
 ghost use Rattle.std.specs.Prelude.{◌≡◌, ℕ, ◌+◌, ◌<◌, ◌≤◌, ◌&&◌, [], ◌∷◌, ◌++◌, length, IfOk};
 ghost use Rattle.grammar.specs.Outcome.{then};
 ghost use Rattle.grammar.specs.Bytes.{stands as stands_at, literal as literal_at};

@@ -1,4 +1,6 @@
 // Sets of small numbers, in words.
+#![tactic(auto)]
+
 ghost use Rattle.std.specs.Prelude.{◌≡◌, ℕ, ◌+◌, ◌-◌, ◌*◌, ◌/◌, ◌<◌, true, false, not, ◌&&◌, ◌||◌, length, replicate, Decides, ◌==◌, nat_le, nat_lt};
 ghost use Rattle.bits.specs.Set.{bit, has, First, FirstBit, Whole, MembersDecide};
 

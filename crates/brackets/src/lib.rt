@@ -1,4 +1,6 @@
 // Escapes, and the byte sets in brackets.
+#![tactic(auto)]
+
 ghost use Rattle.std.specs.Prelude.{◌≡◌, ℕ, ◌+◌, ◌<◌, ◌≤◌, length};
 ghost use Rattle.bits.specs.Set.{has};
 ghost use Rattle.classes.specs.Posix.{members as class_members};

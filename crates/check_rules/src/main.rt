@@ -1,5 +1,7 @@
 // Reads rules.l in the folder it is run in. Of a right file it prints how much it has. Of a wrong one it prints the number and
 // the place of the first fault, then its line and column with the reason in words, that line, and a caret under the place.
+#![tactic(auto)]
+
 use anyhow::anyhow;
 use bits::{Bits, PositionSet};
 use grammar::Fault;

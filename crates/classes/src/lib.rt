@@ -1,4 +1,6 @@
 // The POSIX classes of bytes, in the POSIX locale of ASCII.
+#![tactic(auto)]
+
 ghost use Rattle.std.specs.Prelude.{◌≡◌, Some};
 ghost use Rattle.classes.specs.Posix.{members, name_of, class_named};
 

@@ -1,4 +1,6 @@
 // Start conditions: how they are declared, and how they are named.
+#![tactic(auto)]
+
 ghost use Rattle.std.specs.Prelude.{◌≡◌, ℕ, ◌+◌, ◌<◌, ◌≤◌, ◌&&◌, ◌||◌, length, IfOk, Ok, Err, MatchResult, ◌==◌};
 ghost use Rattle.bits.specs.Set.{has};
 ghost use Rattle.grammar.specs.Conditions.{only_initial, condition_at, picked_first, picked_too, picked_at, active_at, declare_at, declare_more, declared as declared_at, declaration as declaration_at};

@@ -1,4 +1,6 @@
 // Expressions: alternation, branch, piece and atom read each other in a cycle, and lay down positions in the work memory as they go.
+#![tactic(auto)]
+
 ghost use Rattle.std.specs.Prelude.{◌≡◌, ℕ, suc, ◌+◌, ◌-◌, ◌*◌, ◌^◌, ◌<◌, ◌≤◌, true, length, Ok, MatchOption, ◌==◌};
 ghost use Rattle.bits.specs.Set.{has};
 ghost use Rattle.brackets.specs.Sets.{meant, outcome as chosen_as, Moves as ChosenMoves};

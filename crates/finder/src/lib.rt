@@ -1,4 +1,6 @@
 // Things that are equal by their meaning: found in a list of them, or added.
+#![tactic(auto)]
+
 ghost use Rattle.std.specs.Prelude.{◌≡◌, ℕ, min, List, length, Decides};
 ghost use Rattle.finder.specs.Placed.{Located, Placed};
 

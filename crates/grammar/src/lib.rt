@@ -1,4 +1,5 @@
 // What a rule file can say, and how it is turned down. The grammar itself stands in specs/, a definition for each of its sentences.
+#![tactic(auto)]
 
 ghost use Rattle.std.specs.Prelude.{◌≡◌};
 ghost use Rattle.grammar.specs.declared.Refusal.TheVariants.{Misfit};

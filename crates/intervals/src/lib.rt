@@ -1,4 +1,6 @@
 // The bounds of an interval: `{m}`, `{m,n}` or `{m,}`.
+#![tactic(auto)]
+
 ghost use Rattle.std.specs.Prelude.{◌≡◌, ℕ, ◌≤◌, length, IfOk};
 ghost use Rattle.grammar.specs.Outcome.{fault as fault_of};
 ghost use Rattle.grammar.specs.Expressions.{bounds_at, behind_low, up_to, extra};

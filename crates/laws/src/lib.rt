@@ -1,4 +1,6 @@
 // Theorems on the grammar of rule files, each the contract of a function.
+#![tactic(auto)]
+
 ghost use Rattle.laws.specs.Examples.{WorkedExamples};
 ghost use Rattle.laws.specs.Intervals.{IntervalStrings};
 ghost use Rattle.laws.specs.Branches.{BranchesEnd, IntervalCovers, IntervalRead};

@@ -1,4 +1,6 @@
 // What is kept of a rule file, in memory that the caller lends. Zeros stand where nothing is kept.
+#![tactic(auto)]
+
 ghost use Rattle.std.specs.Prelude.{◌≡◌};
 ghost use Rattle.loaded.specs.Zeros.{no_row, no_rule, no_start, zeros as zeros_of};
 

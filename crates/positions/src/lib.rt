@@ -1,4 +1,6 @@
 // Positions in the lent work memory: which bytes each takes, and which may follow it.
+#![tactic(auto)]
+
 ghost use Rattle.std.specs.Prelude.{◌≡◌, ℕ, ◌+◌, ◌-◌, ◌≤◌, ◌&&◌, ◌||◌, length, if◌then◌else◌, nat_le, nat_lt};
 ghost use Rattle.bits.specs.Set.{has};
 ghost use Rattle.positions.specs.Memory.{Leaf, Linked, Sequence, Choice, Repeats, Copied, member, roomy, between, copiable, empties, goes_round};

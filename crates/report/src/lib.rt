@@ -1,4 +1,6 @@
 // How a fault of a rule file is shown: its line and column, the line's bytes, and the reason in words.
+#![tactic(auto)]
+
 ghost use Rattle.std.specs.Prelude.{◌≡◌, ◌≤◌, map, length, IfOk, string_bytes};
 ghost use Rattle.report.specs.Lines.{clipped, line_number, line_start, line_end, column_of};
 ghost use Rattle.report.specs.Words.{shown_as, caret_in, number_of, words_of};

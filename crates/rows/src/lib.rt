@@ -1,4 +1,6 @@
 // Rows by the sets that they stand for, which specs/ defines; here are theorems on them, each the contract of a function.
+#![tactic(auto)]
+
 ghost use Rattle.rows.specs.Theorems.{RowsDistinct, MetAreStored, NumbersNameRows, SameIsEqualMembers, EntriesWithin};
 
 // No two rows stand for the same set, and none for the empty one.

@@ -1,5 +1,7 @@
 // Reads cases.txt, a rule file to a line: a name, a tab, and the file's bytes as escaped text. Prints a line for each: the
 // name, and what the file has, or the number and the place of its first fault.
+#![tactic(auto)]
+
 use anyhow::anyhow;
 use bits::{Bits, PositionSet};
 

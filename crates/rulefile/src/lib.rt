@@ -1,4 +1,6 @@
 // Rule files: read whole into lent memory, or turned down with a number and a place.
+#![tactic(auto)]
+
 ghost use Rattle.std.specs.Prelude.{◌≡◌, ℕ, ◌+◌, ◌<◌, ◌≤◌, false, length, IfOk, if◌then◌else◌, Some, None};
 ghost use Rattle.patterns.specs.Expression.{Expression};
 ghost use Rattle.positions.specs.Memory.{member};

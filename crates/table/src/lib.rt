@@ -1,4 +1,6 @@
 // A table: loaded memory, and rows, that name no row, rule or condition that they lack.
+#![tactic(auto)]
+
 ghost use Rattle.std.specs.Prelude.{◌≡◌, ◌^◌, ◌<◌, ◌≤◌, length, MatchBool, MatchResult};
 ghost use Rattle.table.specs.declared.NotWhole.TheVariants.{Lacking};
 ghost use Rattle.table.specs.Memory.{CountsFit, StartsIn, TrailsIn, LeadsIn, RowsLeadIn, MarksIn, ActiveIn, RulesActiveIn, step_in, BeginsIn, RulesBeginIn, Whole};

@@ -1,4 +1,6 @@
 // The smallest items of a rule file: bytes of a kind, names, numbers, fixed words, and lines without their trailing blanks.
+#![tactic(auto)]
+
 ghost use Rattle.std.specs.Prelude.{◌≡◌, ℕ, ◌+◌, ◌-◌, ◌^◌, ◌<◌, ◌≤◌, min, List, length};
 ghost use Rattle.grammar.specs.Bytes.{stands as stands_at, passes as passes_at, span as span_at, part, name_length, digits as digits_at, number as number_at, literal as literal_at};
 ghost use Rattle.grammar.specs.Lines.{line_end, next_line, trimmed as trimmed_at};

@@ -25,7 +25,7 @@ loop-i-preserved g c =
       λ j l h.
           elim (cases_lt j (64 * i)) [
             | inl lt ↦ c.loop-i.invariant.1 j l lt
-            | inr ge ↦ has_at c.args.self.words j i (j - 64 * i) (omega arith) (omega arith) ∙ c.in-default.ensures (j - 64 * i) (omega arith) (omega arith)
+            | inr ge ↦ has_at c.args.self.words j i (j - 64 * i) (omega arith) (omega arith) ∙ c.in_default.ensures (j - 64 * i) (omega arith) (omega arith)
           ],
     )
 
