@@ -4,8 +4,8 @@ use Rattle.tokens.proofs.Items.{span_within}
 use Rattle.actions.proofs.Parts.{blanks_past}
 use Rattle.actions.proofs.past_blanks.Goals as goal
 
-pub overflow-add-result : goal.overflow-add-result
-overflow-add-result c = omega (arith, span_within blank c.args.s.now (length c.args.s.now) c.args.n c.requires)
+pub overflow_add-result : goal.overflow_add-result
+overflow_add-result c = omega (arith, span_within blank c.args.s.now (length c.args.s.now) c.args.n c.requires)
 
 pub returns-in-Writing : goal.returns-in-Writing
 returns-in-Writing c =

@@ -2,13 +2,13 @@ use Rattle.std.proofs.lemmas.Result.{err_from_is_err_and}
 use Rattle.brackets.proofs.Meant.{class_fails, class_closes}
 use Rattle.brackets.proofs.class_at.Goals as goal
 
-pub returns-in-err-literal : goal.returns-in-err-literal
-returns-in-err-literal c =
-    let p = err_from_is_err_and c.from-residual.result c.from-residual.ensures.1 in
+pub returns-in_err-literal : goal.returns-in_err-literal
+returns-in_err-literal c =
+    let p = err_from_is_err_and c.from_residual.result c.from_residual.ensures.1 in
     rw (p.1, p.2)
-    (class_fails c.args.s.now c.args.n c.in-Name.name.now c.in-Name.ensures c.in-Some.class c.in-Some.ensures.value _ c.in-err-literal.ensures)
+    (class_fails c.args.s.now c.args.n c.in-Name.name.now c.in-Name.ensures c.in-Some.class c.in-Some.ensures.value _ c.in_err-literal.ensures)
 
-pub returns-in-ok-literal : goal.returns-in-ok-literal
-returns-in-ok-literal c =
+pub returns-in_ok-literal : goal.returns-in_ok-literal
+returns-in_ok-literal c =
     class_closes c.args.s.now c.args.n c.in-Name.name.now c.in-Name.ensures c.in-Some.class c.in-Some.ensures.value
-    c.in-ok-literal.field-0 c.of-class.result.words c.in-ok-literal.ensures c.of-class.ensures
+    c.in_ok-literal.field-0 c.of_class.result.words c.in_ok-literal.ensures c.of_class.ensures

@@ -7,22 +7,22 @@ use Rattle.brackets.proofs.members.Goals as goal
 
 pub loop-all-init : goal.loop-all-init
 loop-all-init c =
-    let r = c.in-ok-all.ensures in
-    (r.moves.0, r.moves.1, members_start c.args.s.now c.args.n (meant c.in-ok-all.all) r.is r.moves.0 r.moves.1)
+    let r = c.in_ok-all.ensures in
+    (r.moves.0, r.moves.1, members_start c.args.s.now c.args.n (meant c.in_ok-all.all) r.is r.moves.0 r.moves.1)
 
-pub returns-in-err-more : goal.returns-in-err-more
-returns-in-err-more c =
-    let p = err_from_is_err_and c.from-residual-in-err-more.result c.from-residual-in-err-more.ensures.1 in
+pub returns-in_err-more : goal.returns-in_err-more
+returns-in_err-more c =
+    let p = err_from_is_err_and c.from_residual-in_err-more.result c.from_residual-in_err-more.ensures.1 in
     rw (p.1, p.2)
-    record { is = members_fail c.args.s.now c.args.n (meant c.loop-all.all) _ c.loop-all.invariant.2 c.loop-all-test.ensures c.in-err-more.ensures.is; closes = tt }
+    record { is = members_fail c.args.s.now c.args.n (meant c.loop-all.all) _ c.loop-all.invariant.2 c.loop-all-test.ensures c.in_err-more.ensures.is; closes = tt }
 
 pub loop-all-preserved : goal.loop-all-preserved
 loop-all-preserved c =
-    let r = c.in-ok-more.ensures in (
+    let r = c.in_ok-more.ensures in (
       omega (arith, r.moves.0),
       r.moves.1,
-      members_turn c.args.s.now c.args.n (meant c.loop-all.all) (meant c.in-ok-more.more) c.add-all.new.self.words
-          c.loop-all.invariant.2 c.loop-all-test.ensures r.is r.moves.0 r.moves.1 c.add-all.ensures,
+      members_turn c.args.s.now c.args.n (meant c.loop-all.all) (meant c.in_ok-more.more) c.add_all.new.self.words
+          c.loop-all.invariant.2 c.loop-all-test.ensures r.is r.moves.0 r.moves.1 c.add_all.ensures,
     )
 
 pub returns : goal.returns

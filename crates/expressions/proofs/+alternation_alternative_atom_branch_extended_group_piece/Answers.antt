@@ -11,27 +11,27 @@ use Rattle.expressions.proofs.Atoms.{group_is, atom_quote, atom_group, atom_one,
 use Rattle.expressions.proofs.Growing.{Code, grown_start, grown_turn, grown_stop, grown_fails, grown_counted, past_lays, lays_by, joined_steps, choice_steps, marked_steps, gives_by, moves_on}
 use Rattle.expressions.proofs.+alternation_alternative_atom_branch_extended_group_piece.Goals as goal
 
-pub alternation-returns-in-err-all : goal.alternation-returns-in-err-all
-alternation-returns-in-err-all t c =
+pub alternation-returns-in_err-all : goal.alternation-returns-in_err-all
+alternation-returns-in_err-all t c =
     let s = c.args.s.now in
     let i = inside c.args.depth s in
-    let p = err_from_is_err_and c.from-residual.result c.from-residual.ensures.1 in
-    let r = c.in-err-all.ensures in
+    let p = err_from_is_err_and c.from_residual.result c.from_residual.ensures.1 in
+    let r = c.in_err-all.ensures in
     rw (p.1, p.2) record { gives = alternation_is i s c.args.at c.args.used ∙ ap (λ (o : Out Parsed). then o (many (bar_ahead s) (alternation_more i s) (length s))) r.gives; moves = tt }
 
 pub alternation-loop-all-init : goal.alternation-loop-all-init
 alternation-loop-all-init t c =
     let s = c.args.s.now in
     let i = inside c.args.depth s in
-    let r = c.in-ok-all.ensures in
+    let r = c.in_ok-all.ensures in
     (r.moves.0, r.moves.1, grown_start s (bar_ahead s) (alternation_more i s) _ c.args.used _ _ _ _ (omega arith) (alternation_is i s c.args.at c.args.used) r.gives)
 
-pub alternation-returns-in-err-all-2 : goal.alternation-returns-in-err-all-2
-alternation-returns-in-err-all-2 t c =
+pub alternation-returns-in_err-all-2 : goal.alternation-returns-in_err-all-2
+alternation-returns-in_err-all-2 t c =
     let s = c.args.s.now in
     let i = inside c.args.depth s in
-    let p = err_from_is_err_and c.from-residual-in-err-all-2.result c.from-residual-in-err-all-2.ensures.1 in
-    let r = c.in-err-all-2.ensures in
+    let p = err_from_is_err_and c.from_residual-in_err-all-2.result c.from_residual-in_err-all-2.ensures.1 in
+    let r = c.in_err-all-2.ensures in
     let v = c.loop-all.invariant in
     let on = c.loop-all-test.ensures in
     rw (p.1, p.2) record { gives = grown_fails s (bar_ahead s) (alternation_more i s) _ c.args.used _ c.loop-all.work c.loop-all.work c.loop-all.all _ v.2 (λ t. on) r.gives v.1; moves = tt }
@@ -40,7 +40,7 @@ pub alternation-loop-all-preserved : goal.alternation-loop-all-preserved
 alternation-loop-all-preserved t c =
     let s = c.args.s.now in
     let i = inside c.args.depth s in
-    let r = c.in-ok-all-2.ensures in
+    let r = c.in_ok-all-2.ensures in
     let v = c.loop-all.invariant in
     let on = c.loop-all-test.ensures in
     (omega arith, r.moves.1, grown_turn s (bar_ahead s) (alternation_more i s) _ c.args.used _ c.loop-all.work _ c.loop-all.all _ v.2 (λ t. on) r.gives r.moves.0 v.1)
@@ -52,7 +52,7 @@ alternation-returns t c =
     let v = c.loop-all.invariant in
     let off = c.loop-all-test.ensures in
     record {
-      gives = grown_stop s (bar_ahead s) (alternation_more i s) _ c.args.used c.args.work.now _ c.loop-all.work c.loop-all.all v.2 (λ t. off) c.in-ok-all.ensures.gives.kept;
+      gives = grown_stop s (bar_ahead s) (alternation_more i s) _ c.args.used c.args.work.now _ c.loop-all.work c.loop-all.all v.2 (λ t. off) c.in_ok-all.ensures.gives.kept;
       moves = (v.0, v.1);
     }
 
@@ -60,7 +60,7 @@ pub alternative-returns : goal.alternative-returns
 alternative-returns t c =
     let s = c.args.s.now in
     let i = inside c.args.depth s in
-    let m = c.in-ok-more.ensures in
+    let m = c.in_ok-more.ensures in
     record {
       gives = choice_steps (branch_by i s (c.args.all.now.at + 1) c.args.all.now.used) c.args.base c.args.work.now _ c.args.work.now c.args.all.now _ _ m.gives c.choice.ensures refl refl;
       moves = (omega arith, m.moves.1);
@@ -93,19 +93,19 @@ atom-returns t c =
       moves = c.one.ensures.moves;
     }
 
-pub branch-returns-in-err-all : goal.branch-returns-in-err-all
-branch-returns-in-err-all t c =
+pub branch-returns-in_err-all : goal.branch-returns-in_err-all
+branch-returns-in_err-all t c =
     let s = c.args.s.now in
     let i = inside c.args.depth s in
-    let p = err_from_is_err_and c.from-residual.result c.from-residual.ensures.1 in
-    let r = c.in-err-all.ensures in
+    let p = err_from_is_err_and c.from_residual.result c.from_residual.ensures.1 in
+    let r = c.in_err-all.ensures in
     rw (p.1, p.2) record { gives = branch_is i s c.args.at c.args.used ∙ ap (λ (o : Out Parsed). then o (many (branch_goes_on s) (branch_more i s) (length s))) r.gives; moves = tt }
 
 pub branch-loop-all-init : goal.branch-loop-all-init
 branch-loop-all-init t c =
     let s = c.args.s.now in
     let i = inside c.args.depth s in
-    let r = c.in-ok-all.ensures in
+    let r = c.in_ok-all.ensures in
     (r.moves.0, r.moves.1, grown_start s (branch_goes_on s) (branch_more i s) _ c.args.used _ _ _ _ (omega arith) (branch_is i s c.args.at c.args.used) r.gives)
 
 pub branch-extended-requires : goal.branch-extended-requires
@@ -114,12 +114,12 @@ branch-extended-requires t c =
     let i = inside c.args.depth s in
     (omega arith, ((omega arith), grown_counted s (branch_goes_on s) (branch_more i s) _ c.args.used _ c.loop-all.work c.loop-all.all c.loop-all.invariant.2))
 
-pub branch-returns-in-err-all-2 : goal.branch-returns-in-err-all-2
-branch-returns-in-err-all-2 t c =
+pub branch-returns-in_err-all-2 : goal.branch-returns-in_err-all-2
+branch-returns-in_err-all-2 t c =
     let s = c.args.s.now in
     let i = inside c.args.depth s in
-    let p = err_from_is_err_and c.from-residual-in-err-all-2.result c.from-residual-in-err-all-2.ensures.1 in
-    let r = c.in-err-all-2.ensures in
+    let p = err_from_is_err_and c.from_residual-in_err-all-2.result c.from_residual-in_err-all-2.ensures.1 in
+    let r = c.in_err-all-2.ensures in
     let v = c.loop-all.invariant in
     let on = c.loop-all-test.ensures in
     rw (p.1, p.2) record { gives = grown_fails s (branch_goes_on s) (branch_more i s) _ c.args.used _ c.loop-all.work c.loop-all.work c.loop-all.all _ v.2 (λ t. on) r.gives v.1; moves = tt }
@@ -128,7 +128,7 @@ pub branch-loop-all-preserved : goal.branch-loop-all-preserved
 branch-loop-all-preserved t c =
     let s = c.args.s.now in
     let i = inside c.args.depth s in
-    let r = c.in-ok-all-2.ensures in
+    let r = c.in_ok-all-2.ensures in
     let v = c.loop-all.invariant in
     let on = c.loop-all-test.ensures in
     (omega arith, r.moves.1, grown_turn s (branch_goes_on s) (branch_more i s) _ c.args.used _ c.loop-all.work _ c.loop-all.all _ v.2 (λ t. on) r.gives r.moves.0 v.1)
@@ -140,7 +140,7 @@ branch-returns t c =
     let v = c.loop-all.invariant in
     let off = c.loop-all-test.ensures in
     record {
-      gives = grown_stop s (branch_goes_on s) (branch_more i s) _ c.args.used c.args.work.now _ c.loop-all.work c.loop-all.all v.2 (λ t. off) c.in-ok-all.ensures.gives.kept;
+      gives = grown_stop s (branch_goes_on s) (branch_more i s) _ c.args.used c.args.work.now _ c.loop-all.work c.loop-all.all v.2 (λ t. off) c.in_ok-all.ensures.gives.kept;
       moves = (v.0, v.1);
     }
 
@@ -149,33 +149,33 @@ extended-returns t c =
     let s = c.args.s.now in
     let i = inside c.args.depth s in
     let all = c.args.all.now in
-    let m = c.in-ok-more.ensures in
+    let m = c.in_ok-more.ensures in
     record {
       gives = λ e h. lays_by (extended_joins i s (parsed_as all e) c.if-stands.ensures) (joined_steps (piece_by i s all.at all.used) c.args.base c.args.work.now _ _ all _ _ m.gives c.joined.ensures (omega arith) e h);
       moves = (omega arith, omega arith);
     }
 
-pub group-returns-in-err-inner : goal.group-returns-in-err-inner
-group-returns-in-err-inner t c =
+pub group-returns-in_err-inner : goal.group-returns-in_err-inner
+group-returns-in_err-inner t c =
     let s = c.args.s.now in
-    let p = err_from_is_err_and c.from-residual.result c.from-residual.ensures.1 in
-    let r = c.in-err-inner.ensures in
+    let p = err_from_is_err_and c.from_residual.result c.from_residual.ensures.1 in
+    let r = c.in_err-inner.ensures in
     rw (p.1, p.2) record { gives = group_is c.args.depth s c.args.at c.args.used c.if-depth-eq0.false ∙ ap (λ (o : Out Parsed). then o (closed_group s)) r.gives; moves = tt }
 
 pub group-returns-then-not-stands : goal.group-returns-then-not-stands
 group-returns-then-not-stands t c =
     let s = c.args.s.now in
-    let l = c.in-ok-inner.ensures.gives in
+    let l = c.in_ok-inner.ensures.gives in
     record {
-      gives = closed_open c.args.depth s c.args.at c.args.used (parsed_as c.in-ok-inner.inner l.tree) c.if-depth-eq0.false l.is c.if-not-stands.ensures ∙ ap (λ (f : Fault). Err f) (sym c.refused-then-not-stands.ensures);
+      gives = closed_open c.args.depth s c.args.at c.args.used (parsed_as c.in_ok-inner.inner l.tree) c.if-depth-eq0.false l.is c.if-not-stands.ensures ∙ ap (λ (f : Fault). Err f) (sym c.refused-then-not-stands.ensures);
       moves = tt;
     }
 
 pub group-returns : goal.group-returns
 group-returns t c =
     let s = c.args.s.now in
-    let inner = c.in-ok-inner.inner in
-    let r = c.in-ok-inner.ensures in
+    let inner = c.in_ok-inner.inner in
+    let r = c.in_ok-inner.ensures in
     let on = c.if-not-stands.ensures in
     let at = ap (λ (x : Code). x.at) c.past.ensures in
     record {
@@ -183,19 +183,19 @@ group-returns t c =
       moves = (omega (arith, at), omega (arith, at, stands_below s inner.at 41 on));
     }
 
-pub piece-returns-in-err-all : goal.piece-returns-in-err-all
-piece-returns-in-err-all t c =
+pub piece-returns-in_err-all : goal.piece-returns-in_err-all
+piece-returns-in_err-all t c =
     let s = c.args.s.now in
     let i = inside c.args.depth s in
-    let p = err_from_is_err_and c.from-residual.result c.from-residual.ensures.1 in
-    let r = c.in-err-all.ensures in
+    let p = err_from_is_err_and c.from_residual.result c.from_residual.ensures.1 in
+    let r = c.in_err-all.ensures in
     rw (p.1, p.2) record { gives = piece_is i s c.args.at c.args.used ∙ ap (λ (o : Out Parsed). then o (many (marked s) (repeated_more s) (length s))) r.gives; moves = tt }
 
 pub piece-loop-mark-init : goal.piece-loop-mark-init
 piece-loop-mark-init t c =
     let s = c.args.s.now in
     let i = inside c.args.depth s in
-    let r = c.in-ok-all.ensures in
+    let r = c.in_ok-all.ensures in
     (r.moves.0, r.moves.1, grown_start s (marked s) (repeated_more s) _ c.args.used _ _ _ _ (omega arith) (piece_is i s c.args.at c.args.used) r.gives)
 
 pub piece-loop-mark-preserved : goal.piece-loop-mark-preserved
@@ -213,6 +213,6 @@ piece-returns t c =
     let s = c.args.s.now in
     let v = c.loop-mark.invariant in
     record {
-      gives = grown_stop s (marked s) (repeated_more s) _ c.args.used c.args.work.now _ c.loop-mark.work c.loop-mark.all v.2 (λ e. sym c.in-default.ensures) c.in-ok-all.ensures.gives.kept;
+      gives = grown_stop s (marked s) (repeated_more s) _ c.args.used c.args.work.now _ c.loop-mark.work c.loop-mark.all v.2 (λ e. sym c.in_default.ensures) c.in_ok-all.ensures.gives.kept;
       moves = (v.0, v.1);
     }

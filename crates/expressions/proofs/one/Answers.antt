@@ -7,17 +7,17 @@ use Rattle.expressions.proofs.Atoms.{one_is}
 use Rattle.expressions.proofs.Growing.{lays_by}
 use Rattle.expressions.proofs.one.Goals as goal
 
-pub returns-in-err-chosen : goal.returns-in-err-chosen
-returns-in-err-chosen c =
-    let p = err_from_is_err_and c.from-residual.result c.from-residual.ensures.1 in
-    let r = c.in-err-chosen.ensures in
-    let is = one_is c.args.s.now c.args.at c.args.used (omega arith) c.if-not-starts-atom.ensures c.if-used-ge-POSITIONS.false in
+pub returns-in_err-chosen : goal.returns-in_err-chosen
+returns-in_err-chosen c =
+    let p = err_from_is_err_and c.from_residual.result c.from_residual.ensures.1 in
+    let r = c.in_err-chosen.ensures in
+    let is = one_is c.args.s.now c.args.at c.args.used (omega arith) c.if-not-starts_atom.ensures c.if-used-ge-POSITIONS.false in
     rw (p.1, p.2) record { gives = is ∙ ap (λ (o : Out Chosen). then o (one_of c.args.used)) (sym r.is); moves = tt }
 
 pub returns : goal.returns
 returns c =
-    let r = c.in-ok-chosen.ensures in
-    let is = one_is c.args.s.now c.args.at c.args.used (omega arith) c.if-not-starts-atom.ensures c.if-used-ge-POSITIONS.false in
+    let r = c.in_ok-chosen.ensures in
+    let is = one_is c.args.s.now c.args.at c.args.used (omega arith) c.if-not-starts_atom.ensures c.if-used-ge-POSITIONS.false in
     record {
       gives = lays_by (is ∙ ap (λ (o : Out Chosen). then o (one_of c.args.used)) (sym r.is)) c.position.ensures.gives;
       moves = (omega arith, omega arith);

@@ -7,11 +7,11 @@ use Rattle.expressions.proofs.Atoms.{quote_is}
 use Rattle.expressions.proofs.Growing.{grown_turn, grown_stop, grown_fails, past_lays, lays_by, Code}
 use Rattle.expressions.proofs.quote.Goals as goal
 
-pub returns-in-err-all-2 : goal.returns-in-err-all-2
-returns-in-err-all-2 c =
+pub returns-in_err-all-2 : goal.returns-in_err-all-2
+returns-in_err-all-2 c =
     let s = c.args.s.now in
-    let p = err_from_is_err_and c.from-residual-in-err-all-2.result c.from-residual-in-err-all-2.ensures.1 in
-    let r = c.in-err-all-2.ensures in
+    let p = err_from_is_err_and c.from_residual-in_err-all-2.result c.from_residual-in_err-all-2.ensures.1 in
+    let r = c.in_err-all-2.ensures in
     let i = c.loop-all.invariant in
     let off = c.loop-all-test.ensures in
     let f = grown_fails s (in_quotes s) (quoted_more s) _ c.args.used _ c.loop-all.work c.loop-all.work c.loop-all.all _ i.2 (λ t. ap not off) r.gives i.1 in
@@ -20,7 +20,7 @@ returns-in-err-all-2 c =
 pub loop-all-preserved : goal.loop-all-preserved
 loop-all-preserved c =
     let s = c.args.s.now in
-    let r = c.in-ok-all-2.ensures in
+    let r = c.in_ok-all-2.ensures in
     let i = c.loop-all.invariant in
     (omega arith, r.moves.1, grown_turn s (in_quotes s) (quoted_more s) _ c.args.used _ c.loop-all.work _ c.loop-all.all _ i.2 (λ t. ap not c.loop-all-test.ensures) r.gives r.moves.0 i.1)
 
@@ -28,7 +28,7 @@ pub returns : goal.returns
 returns c =
     let s = c.args.s.now in
     let i = c.loop-all.invariant in
-    let first = c.in-ok-all.ensures in
+    let first = c.in_ok-all.ensures in
     let on = c.loop-all-test.ensures in
     let at = ap (λ (x : Code). x.at) c.past.ensures in
     let l = grown_stop s (in_quotes s) (quoted_more s) _ c.args.used c.args.work.now _ c.loop-all.work c.loop-all.all i.2 (λ t. ap not on) first.gives.kept in

@@ -5,7 +5,7 @@ use Rattle.expressions.proofs.quoted_more.Goals as goal
 
 pub returns : goal.returns
 returns c =
-    let m = c.in-ok-more.ensures in
+    let m = c.in_ok-more.ensures in
     record {
       gives = joined_steps (quoted_byte c.args.s.now c.args.all.now.at c.args.all.now.used) c.args.base c.args.work.now _ _ c.args.all.now _ _ m.gives c.joined.ensures (omega arith);
       moves = (omega arith, omega arith);

@@ -14,13 +14,13 @@ returns-then-divides c =
     let d = declaring_done c.args.file.now (known c.loop-line.conditions) c.loop-line.next c.in-Some.line c.loop-line.invariant.1 c.in-Some.ensures c.if-divides.ensures in
     record { turns = d.0; enough = d.1; is = d.2 }
 
-pub returns-in-err-conditions : goal.returns-in-err-conditions
-returns-in-err-conditions c =
+pub returns-in_err-conditions : goal.returns-in_err-conditions
+returns-in_err-conditions c =
     let file = c.args.file.now in
     let line = c.in-Some.line in
     let k = known c.loop-line.conditions in
-    let p = err_from_is_err_and c.from-residual.result c.from-residual.ensures.1 in
-    let r = c.in-err-conditions.ensures ∙ ap (λ (s : List ℕ). declaration s line.start k) (cut file line.end) in
+    let p = err_from_is_err_and c.from_residual.result c.from_residual.ensures.1 in
+    let r = c.in_err-conditions.ensures ∙ ap (λ (s : List ℕ). declaration s line.start k) (cut file line.end) in
     rw (p.1, p.2) (declaring_fails file k c.loop-line.next line c.loop-line.invariant.1 c.in-Some.ensures _ c.if-divides.ensures r)
 
 pub loop-line-preserved : goal.loop-line-preserved
@@ -29,8 +29,8 @@ loop-line-preserved c =
     let line = c.in-Some.line in
     let k = known c.loop-line.conditions in
     let n = c.in-Some.ensures in
-    let r = c.in-ok-conditions.ensures ∙ ap (λ (s : List ℕ). declaration s line.start k) (cut file line.end) in
+    let r = c.in_ok-conditions.ensures ∙ ap (λ (s : List ℕ). declaration s line.start k) (cut file line.end) in
     (n.few, declaring_more file k c.loop-line.next line c.loop-line.invariant.1 n _ c.if-divides.ensures r)
 
 pub returns : goal.returns
-returns c = declaring_ends c.args.file.now (known c.loop-line.conditions) c.loop-line.next c.loop-line.invariant.1 c.in-default.ensures ∙ ap (λ (f : Fault). Err f) (sym c.refused.ensures)
+returns c = declaring_ends c.args.file.now (known c.loop-line.conditions) c.loop-line.next c.loop-line.invariant.1 c.in_default.ensures ∙ ap (λ (f : Fault). Err f) (sym c.refused.ensures)

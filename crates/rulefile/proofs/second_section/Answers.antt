@@ -14,14 +14,14 @@ pub returns-then-divides : goal.returns-then-divides
 returns-then-divides c =
     adding_done c.args.file.now c.args.from (known c.args.conditions.now) _ _ _ c.loop-line.done c.loop-line.next c.in-Some.line c.loop-line.invariant c.in-Some.ensures c.if-divides.ensures
 
-pub returns-in-err-done : goal.returns-in-err-done
-returns-in-err-done c =
+pub returns-in_err-done : goal.returns-in_err-done
+returns-in_err-done c =
     let file = c.args.file.now in
     let line = c.in-Some.line in
     let k = known c.args.conditions.now in
     let done = c.loop-line.done in
-    let p = err_from_is_err_and c.from-residual.result c.from-residual.ensures.1 in
-    let r = ap (λ (s : List ℕ). rule_line s k done.rules line.start done.positions) (sym (cut file line.end)) ∙ c.in-err-done.ensures in
+    let p = err_from_is_err_and c.from_residual.result c.from_residual.ensures.1 in
+    let r = ap (λ (s : List ℕ). rule_line s k done.rules line.start done.positions) (sym (cut file line.end)) ∙ c.in_err-done.ensures in
     rw (p.1, p.2) (adding_fails file c.args.from k c.loop-line.work _ c.loop-line.loaded done c.loop-line.next line c.loop-line.invariant c.in-Some.ensures _ c.if-divides.ensures r)
 
 pub loop-line-preserved : goal.loop-line-preserved
@@ -30,8 +30,8 @@ loop-line-preserved c =
     let line = c.in-Some.line in
     let k = known c.args.conditions.now in
     let done = c.loop-line.done in
-    let d = subst (λ (s : List ℕ). Added s k line.start done c.loop-line.work c.add-rule.new.work c.loop-line.loaded c.add-rule.new.loaded c.in-ok-done.done) (cut file line.end) c.in-ok-done.ensures in
+    let d = subst (λ (s : List ℕ). Added s k line.start done c.loop-line.work c.add_rule.new.work c.loop-line.loaded c.add_rule.new.loaded c.in_ok-done.done) (cut file line.end) c.in_ok-done.ensures in
     adding_more file c.args.from k c.loop-line.work _ c.loop-line.loaded done c.loop-line.next line c.loop-line.invariant c.in-Some.ensures _ _ _ c.if-divides.ensures d
 
 pub returns : goal.returns
-returns c = adding_ends c.args.file.now c.args.from (known c.args.conditions.now) _ _ _ c.loop-line.done c.loop-line.next c.loop-line.invariant c.in-default.ensures
+returns c = adding_ends c.args.file.now c.args.from (known c.args.conditions.now) _ _ _ c.loop-line.done c.loop-line.next c.loop-line.invariant c.in_default.ensures

@@ -21,8 +21,8 @@ returns-then-blanks-eq0 c =
       padded = tt;
     }
 
-pub overflow-add-n : goal.overflow-add-n
-overflow-add-n c =
+pub overflow_add-n : goal.overflow_add-n
+overflow_add-n c =
     let s = c.args.s.now in
     let there : c.args.n < length s = span_there blank s (length s) c.args.n (omega (arith, c.span-blanks.ensures, c.if-blanks-eq0.false)) in
     omega (arith, c.span-blanks.ensures, span_within blank s (length s) c.args.n (omega arith))

@@ -5,4 +5,4 @@ use Rattle.table.proofs.rows_lead_in.Goals as goal
 pub loop-k-preserved : goal.loop-k-preserved
 loop-k-preserved c =
     let P : ℕ → Type 0 = λ j. LeadsIn c.args.loaded.now.row_count (row_at c.args.rows.now j) in
-    below_more P c.loop-k.k c.loop-k.invariant c.if-not-leads-in.ensures
+    below_more P c.loop-k.k c.loop-k.invariant c.if-not-leads_in.ensures

@@ -6,4 +6,4 @@ pub loop-i-preserved : goal.loop-i-preserved
 loop-i-preserved c =
     let l = c.args.loaded.now in
     let P : ℕ → Type 0 = λ j. ActiveIn l.condition_count (rule_at l j).conditions.words in
-    below_more P c.loop-i.i c.loop-i.invariant c.if-not-active-in.ensures
+    below_more P c.loop-i.i c.loop-i.invariant c.if-not-active_in.ensures

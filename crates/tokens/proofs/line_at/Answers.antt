@@ -4,8 +4,8 @@ use Rattle.grammar.specs.Lines.{not_newline}
 use Rattle.tokens.proofs.Items.{span_there, span_within, span_past}
 use Rattle.tokens.proofs.line_at.Goals as goal
 
-pub overflow-add-end : goal.overflow-add-end
-overflow-add-end c =
+pub overflow_add-end : goal.overflow_add-end
+overflow_add-end c =
     ⊎_elim
     (λ lt. omega (arith, span_within not_newline c.args.file.now (length c.args.file.now) c.args.at (omega arith)))
     (λ le. omega (arith, span_past not_newline c.args.file.now (length c.args.file.now) c.args.at le))

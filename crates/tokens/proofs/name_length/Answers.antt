@@ -6,8 +6,8 @@ use Rattle.tokens.proofs.name_length.Goals as goal
 pub returns-then-not-passes : goal.returns-then-not-passes
 returns-then-not-passes c = sym (name_none c.args.s.now c.args.n c.if-not-passes.ensures)
 
-pub overflow-add-result : goal.overflow-add-result
-overflow-add-result c = omega (arith, span_most name_byte c.args.s.now 23 (c.args.n + 1))
+pub overflow_add-result : goal.overflow_add-result
+overflow_add-result c = omega (arith, span_most name_byte c.args.s.now 23 (c.args.n + 1))
 
 pub returns : goal.returns
 returns c =

@@ -10,9 +10,9 @@ loop-k-init c = (sym (value_none c.args.digits.now 0), omega arith)
 
 pub loop-k-preserved : goal.loop-k-preserved
 loop-k-preserved c =
-    let x = c.saturating-sub.ensures in (
-      value_turn c.args.digits.now c.loop-k.k c.loop-k.value c.saturating-sub.result c.loop-k.invariant.0 (omega arith),
-      value_room c.loop-k.k c.loop-k.value c.saturating-sub.result c.loop-k.invariant.1 (omega arith),
+    let x = c.saturating_sub.ensures in (
+      value_turn c.args.digits.now c.loop-k.k c.loop-k.value c.saturating_sub.result c.loop-k.invariant.0 (omega arith),
+      value_room c.loop-k.k c.loop-k.value c.saturating_sub.result c.loop-k.invariant.1 (omega arith),
     )
 
 pub returns : goal.returns

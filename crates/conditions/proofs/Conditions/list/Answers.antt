@@ -6,17 +6,17 @@ use Rattle.conditions.proofs.Conditions.list.Goals as goal
 
 pub loop-picked-init : goal.loop-picked-init
 loop-picked-init c =
-    let r = c.in-ok-first.ensures in
+    let r = c.in_ok-first.ensures in
     (omega (arith, r.moves), omega (arith, r.moves), picking_starts _ _ _ _ _ r.is c.only-picked.ensures.is)
 
-pub returns-in-err-more : goal.returns-in-err-more
-returns-in-err-more c =
-    let p = err_from_is_err_and c.from-residual-in-err-more.result c.from-residual-in-err-more.ensures.1 in
-    rw (p.1, p.2) record { is = picking_fails _ _ _ _ _ c.loop-picked.invariant.2 c.loop-picked-test.ensures c.in-err-more.ensures.is; moves = tt }
+pub returns-in_err-more : goal.returns-in_err-more
+returns-in_err-more c =
+    let p = err_from_is_err_and c.from_residual-in_err-more.result c.from_residual-in_err-more.ensures.1 in
+    rw (p.1, p.2) record { is = picking_fails _ _ _ _ _ c.loop-picked.invariant.2 c.loop-picked-test.ensures c.in_err-more.ensures.is; moves = tt }
 
 pub loop-picked-preserved : goal.loop-picked-preserved
 loop-picked-preserved c =
-    let r = c.in-ok-more.ensures in
+    let r = c.in_ok-more.ensures in
     (omega arith, omega arith, picking_turns _ _ _ _ _ _ c.loop-picked.invariant.2 c.loop-picked-test.ensures r.is c.with-picked.ensures.is (omega arith))
 
 pub returns-then-not-stands : goal.returns-then-not-stands

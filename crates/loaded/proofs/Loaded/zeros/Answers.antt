@@ -3,4 +3,4 @@ use Rattle.loaded.proofs.Loaded.zeros.Goals as goal
 
 pub returns : goal.returns
 unfolding loaded
-returns c = loaded_is c.no-rule.result c.no-start.result c.no-rule.ensures c.no-start.ensures
+returns c = loaded_is c.no_rule.result c.no_start.result c.no_rule.ensures c.no_start.ensures

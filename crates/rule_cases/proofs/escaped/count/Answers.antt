@@ -6,4 +6,4 @@ pub loop-at-init : goal.loop-at-init
 loop-at-init c = runs.none
 
 pub loop-at-preserved : goal.loop-at-preserved
-loop-at-preserved c = runs.more c.loop-at.invariant (sym c.if-not-is-ascii-digit.ensures.value)
+loop-at-preserved c = runs.more c.loop-at.invariant (sym c.if-not-is_ascii_digit.ensures.value)

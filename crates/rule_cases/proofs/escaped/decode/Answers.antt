@@ -5,14 +5,14 @@ use Rattle.rule_cases.proofs.escaped.decode.Goals as goal
 
 pub loop-at-init : goal.loop-at-init
 loop-at-init c = (
-  c.in-ok-at.ensures.within.1,
-  means_first c.args.text.now c.in-ok-at.at _ _ c.new-out.ensures.items c.in-ok-at.ensures.added,
+  c.in_ok-at.ensures.within.1,
+  means_first c.args.text.now c.in_ok-at.at _ _ c.new-out.ensures.items c.in_ok-at.ensures.added,
 )
 
 pub loop-at-preserved : goal.loop-at-preserved
 loop-at-preserved c = (
-  c.in-ok-at-2.ensures.within.1,
-  runs.units c.in-ok-behind.behind c.in-ok-at-2.at _ _
-      (runs.run c.loop-at.at c.in-ok-behind.behind _ _ c.loop-at.invariant.1 (sym c.if-not-bracket.ensures) c.in-ok-behind.ensures.run)
-      c.in-ok-at-2.ensures.added,
+  c.in_ok-at-2.ensures.within.1,
+  runs.units c.in_ok-behind.behind c.in_ok-at-2.at _ _
+      (runs.run c.loop-at.at c.in_ok-behind.behind _ _ c.loop-at.invariant.1 (sym c.if-not-bracket.ensures) c.in_ok-behind.ensures.run)
+      c.in_ok-at-2.ensures.added,
 )

@@ -6,4 +6,4 @@ loop-init c = copies_none _ _
 
 pub loop-preserved : goal.loop-preserved
 loop-preserved c =
-    copies_more _ _ _ _ _ c.loop.counter c.loop.invariant c.in-ok-extend-from-slice.ensures.items c.as-slice.ensures.value
+    copies_more _ _ _ _ _ c.loop.counter c.loop.invariant c.in_ok-extend_from_slice.ensures.items c.as_slice.ensures.value

@@ -11,5 +11,5 @@ loop-at-preserved c =
     let w = unit_within c.args.text.now c.loop-at.at c.in-Some.meant c.in-Some.ensures in (
       omega arith,
       w.1,
-      added_more c.args.text.now c.args.from c.loop-at.at (vec_items c.args.out.now) (vec_items c.loop-at.out) (vec_items c.push.new.self) c.in-Some.meant c.loop-at.invariant.2 c.in-Some.ensures c.in-ok-push.ensures.items,
+      added_more c.args.text.now c.args.from c.loop-at.at (vec_items c.args.out.now) (vec_items c.loop-at.out) (vec_items c.push.new.self) c.in-Some.meant c.loop-at.invariant.2 c.in-Some.ensures c.in_ok-push.ensures.items,
     )
