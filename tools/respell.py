@@ -28,6 +28,9 @@ NAMED = {
     "one-of": "one_of_ends",
     "pick_more": "pick_more_ends",
     "steps-of": "steps_of_read",
+    "branch-more": "branch_more_ends",
+    "alternation-more": "alternation_more_ends",
+    "declare-more": "declare_more_ends",
 }
 # Names that stay: the laws of `bit` at the library's `bit_and` and `bit_or`, whose names they would have.
 KEPT = {"bit-and", "bit-or"}
@@ -133,7 +136,11 @@ def main():
         words = set(WORD.findall(STRING.sub("", text)))
         outside = imported_from_elsewhere(text, own)
         goals = goals_of(text)
+        met = {}
         for w in sorted(words & set(turned)):
+            if met.setdefault(turned[w], w) != w:
+                bad += 1
+                print(f"{os.path.relpath(path, ROOT)}: {w} and {met[turned[w]]} fall together")
             if w in outside:
                 bad += 1
                 print(f"{os.path.relpath(path, ROOT)}: {w} is brought in from the library")

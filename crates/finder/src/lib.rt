@@ -13,7 +13,7 @@ pub trait Same {
     ghost meaning: { Self → List ℕ };
 
     fn same(&self, other: &Self) -> bool
-        ensures { Decides result (meaning self.now ≡ meaning other.now) };
+        ensures { Decides result (Self.meaning self.now ≡ Self.meaning other.now) };
 }
 
 // Where an item is: at a place where it was already, at one where it was added, or nowhere, since there is no room for it.
@@ -26,7 +26,7 @@ pub enum Found {
 
 // The place of the first of the items in use that means the same. In use are the first `count`, or all if they are fewer.
 pub fn find<T: Same>(items: &[T], count: usize, item: &T) -> Option<usize>
-    ensures { Located meaning items.now (min count (length items.now)) item.now result }
+    ensures { Located T.meaning items.now (min count (length items.now)) item.now result }
 {
     for k in 0..count.min(items.len()) {
         if items[k].same(item) {
@@ -38,7 +38,7 @@ pub fn find<T: Same>(items: &[T], count: usize, item: &T) -> Option<usize>
 
 // Finds an item among those in use, or else adds it behind them if there is room.
 pub fn find_or_add<T: Same + Copy>(items: &mut [T], count: usize, item: &T) -> Found
-    ensures { Placed meaning items.old items.new (min count (length items.old)) item.now result }
+    ensures { Placed T.meaning items.old items.new (min count (length items.old)) item.now result }
 {
     if let Some(k) = find(items, count, item) {
         return Found::Old(k);

@@ -10,7 +10,7 @@ use Rattle.tokens.proofs.Follow.{Left, starts, turns_on, stops}
 use Rattle.laws.specs.Branches.{Reads, first, further, BranchesEnd, Covers, IntervalCovers, IntervalRead}
 use Rattle.laws.proofs.Intervals.{interval_strings}
 use Rattle.laws.proofs.Ends.{well_at, passing, standing}
-use Rattle.laws.proofs.Growth.{Grown, Further, Inner, piece_ends, branch_more, inside_ends, Ordered, bounds_ends}
+use Rattle.laws.proofs.Growth.{Grown, Further, Inner, piece_ends, branch_more_ends, inside_ends, Ordered, bounds_ends}
 
 -- a piece begins in the text
 never : {X : Type 0} (f : Fault) (x : X) (A : Type 0) → ◌≡◌ {A = Out X} (Err f) (Ok x) → A
@@ -41,7 +41,7 @@ piece_begins inner s n u p e =
 module _ (inner : Option Parser) (s : List ℕ) (i : Inner s inner) (n u : ℕ) where
   reads_grown : (p : Parsed) → Reads inner s n u p → Grown s n u p
   reads_grown p (first e) = let lt : n < length s = piece_begins inner s n u p e in well_at (piece_by inner s n u) p (piece_ends s inner i n u (omega arith)) e
-  reads_grown p (further q r t e) = (well_at (branch_more inner s q) p (branch_more s inner i n u q (reads_grown q r)) e).grown
+  reads_grown p (further q r t e) = (well_at (branch_more inner s q) p (branch_more_ends s inner i n u q (reads_grown q r)) e).grown
 
   -- what is read by turns
   to_reads : (k : ℕ) (p q : Parsed) → Reads inner s n u p → length s < k + p.at → many (branch_goes_on s) (branch_more inner s) k p ≡ Ok q → Reads inner s n u q × (branch_goes_on s q ≡ false)
@@ -53,7 +53,7 @@ module _ (inner : Option Parser) (s : List ℕ) (i : Inner s inner) (n u : ℕ) 
           ((x y : Parsed) → Reads inner s n u x → length s < k + x.at → many (branch_goes_on s) (branch_more inner s) k x ≡ Ok y → Reads inner s n u y × (branch_goes_on s y ≡ false)) →
           Reads inner s n u q × (branch_goes_on s q ≡ false)
       again true t (Ok x) m e more =
-          let f : Further s n u p x = well_at (branch_more inner s p) x (branch_more s inner i n u p (reads_grown p r)) m in
+          let f : Further s n u p x = well_at (branch_more inner s p) x (branch_more_ends s inner i n u p (reads_grown p r)) m in
           more x q (further p r t m) (omega (arith, f.behind)) e
       again true t (Err f) m e more = never f q _ e
       again false t o m e more =
@@ -78,7 +78,7 @@ module _ (inner : Option Parser) (s : List ℕ) (i : Inner s inner) (n u : ℕ) 
   unfolding branch_by left
   from_reads p (first e) = starts (branch_goes_on s) (branch_more inner s) left (branch_by inner s n u) p (length s) (omega arith) (rw e)
   from_reads p (further q r t e) =
-      let f : Further s n u q p = well_at (branch_more inner s q) p (branch_more s inner i n u q (reads_grown q r)) e in
+      let f : Further s n u q p = well_at (branch_more inner s q) p (branch_more_ends s inner i n u q (reads_grown q r)) e in
       let lt : q.at < length s = goes_below q t in
       turns_on (branch_goes_on s) (branch_more inner s) left (branch_by inner s n u) q p (from_reads q r) (sym t) e (omega (arith, f.behind))
 

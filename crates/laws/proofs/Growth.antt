@@ -199,8 +199,8 @@ module _ (s : List ℕ) where
       (λ f. ill g.inside)
 
   module _ (inner : Option Parser) (i : Inner inner) where
-    pub branch_more : (n u : ℕ) (p : Parsed) → Grown s n u p → Ends (Further s n u p) (length s) (branch_more inner s p)
-    branch_more n u p g =
+    pub branch_more_ends : (n u : ℕ) (p : Parsed) → Grown s n u p → Ends (Further s n u p) (length s) (branch_more inner s p)
+    branch_more_ends n u p g =
         cond_ends (stands s p.at 123)
         (λ t. then_ends (repeated_over p) (bounds_ends (p.at + 1) (omega (arith, standing s p.at 123 t))) (λ b k. over_ends n u p b g k.past))
         (λ f. then_ends (joined_by Then p) (piece_ends inner i p.at p.used g.inside) (λ q k. join_ends Then (λ e f. refl) n u p.at p q g (omega arith) k))
@@ -209,10 +209,10 @@ module _ (s : List ℕ) where
     unfolding branch_by
     branch_ends n u h =
         then_ends (many (branch_goes_on s) (branch_more inner s) (length s)) (piece_ends inner i n u h)
-        (λ p k. map_ends (λ q g. g.0) (loop_ends (branch_goes_on s) (branch_more inner s) n u (λ q g t. branch_more n u q g) p k))
+        (λ p k. map_ends (λ q g. g.0) (loop_ends (branch_goes_on s) (branch_more inner s) n u (λ q g t. branch_more_ends n u q g) p k))
 
-    alternation_more : (n u : ℕ) (p : Parsed) → Grown s n u p → bar_ahead s p ≡ true → Ends (Further s n u p) (length s) (alternation_more inner s p)
-    alternation_more n u p g t =
+    alternation_more_ends : (n u : ℕ) (p : Parsed) → Grown s n u p → bar_ahead s p ≡ true → Ends (Further s n u p) (length s) (alternation_more inner s p)
+    alternation_more_ends n u p g t =
         then_ends (joined_by Either p) (branch_ends (p.at + 1) p.used (omega (arith, standing s p.at 124 t)))
         (λ q k. join_ends Either (λ e f. refl) n u (p.at + 1) p q g (omega arith) k)
 
@@ -220,7 +220,7 @@ module _ (s : List ℕ) where
     unfolding alternation_by
     alternation_ends n u h =
         then_ends (many (bar_ahead s) (alternation_more inner s) (length s)) (branch_ends n u h)
-        (λ p k. map_ends (λ q g. g.0) (loop_ends (bar_ahead s) (alternation_more inner s) n u (alternation_more n u) p k))
+        (λ p k. map_ends (λ q g. g.0) (loop_ends (bar_ahead s) (alternation_more inner s) n u (alternation_more_ends n u) p k))
 
   pub inside_ends : (d : ℕ) → Inner (inside d s)
   inside_ends zero = tt

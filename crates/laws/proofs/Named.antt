@@ -72,8 +72,8 @@ module _ (s : List ℕ) where
         cond_ends (eqb (name_length s n) 0) (λ t. ill h)
         (λ f. as_ends (numbered c.names (part s n (name_length s n))) c n (name_length s n) b (name_past n h f))
 
-    declare_more : (d : Declared) → Bounded d.conditions → d.at ≤ length s → Ends (Declares d.at) (length s) (declare_more s inclusive d)
-    declare_more d b h =
+    declare_more_ends : (d : Declared) → Bounded d.conditions → d.at ≤ length s → Ends (Declares d.at) (length s) (declare_more s inclusive d)
+    declare_more_ends d b h =
         cond_ends (passes blank s d.at)
         (λ t. map_ends (λ e k. record { past = (omega (arith, k.past.0), k.past.1); bounded = k.bounded })
         (declare_ends d.conditions (d.at + span blank (length s) s d.at) b (span_within blank s (length s) d.at h)))
@@ -82,9 +82,9 @@ module _ (s : List ℕ) where
     declared_ends : (d : Declared) → Bounded d.conditions → d.at ≤ length s → Ends Bounded (length s) (declared s inclusive d)
     declared_ends d b h =
         then_ends _
-        (then_ends (many (line_goes_on s) (declare_more s inclusive) (length s)) (declare_more d b h)
+        (then_ends (many (line_goes_on s) (declare_more s inclusive) (length s)) (declare_more_ends d b h)
         (λ e k. many_ends (λ (x : Declared). x.at) (Declares d.at) (length s) (line_goes_on s) (declare_more s inclusive) (λ x g. g.past.1)
-        (λ x g t. map_ends (λ y m. (record { past = (omega (arith, g.past.0, m.past.0), m.past.1); bounded = m.bounded }, m.past.0)) (declare_more x g.bounded g.past.1))
+        (λ x g t. map_ends (λ y m. (record { past = (omega (arith, g.past.0, m.past.0), m.past.1); bounded = m.bounded }, m.past.0)) (declare_more_ends x g.bounded g.past.1))
         (length s) e k (omega (arith, k.past.0))))
         (λ e k. well k.0.bounded)
 

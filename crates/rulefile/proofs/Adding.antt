@@ -37,7 +37,7 @@ pub adding_start : (text : List ℕ) (from : ℕ) (c : Conditions) (w : Work) (l
 adding_start text from c w l = record {
   rules = [];
   few = inl (omega arith);
-  so_far = record { count = refl; few = omega arith; used = refl; laid = tt; room = λ e. (zero_rules l e).0; holds = λ e. (zero_rules l e).1; starts = refl; trails = refl; row-count = refl };
+  so_far = record { count = refl; few = omega arith; used = refl; laid = tt; room = λ e. (zero_rules l e).0; holds = λ e. (zero_rules l e).1; starts = refl; trails = refl; row_count = refl };
   left = λ k e. (k, e, refl);
 }
 
@@ -67,7 +67,7 @@ more qs w w' l₀ l l' p p' s c at f a =
           (holds_more l.rules qs a.read.rule q (f.holds e) (omega (arith, f.room e, a.line.few, i)) a.line.holds);
       starts = a.starts ∙ f.starts;
       trails = a.trails ∙ f.trails;
-      row-count = a.row-count ∙ f.row-count;
+      row_count = a.row_count ∙ f.row_count;
     }
 
 module _ (text : List ℕ) (from : ℕ) (c : Conditions) (w : Work) (l₀ l : Loaded) (p : Progress) (next : ℕ) (t : TextLine) (a : Adding text from c w l₀ l p next) (n : Next text next t) where
@@ -141,7 +141,7 @@ file_reads text f w l₀ l p n r g n-is e =
         condition_count = n-is;
         starts = so.starts ∙ ap (λ (x : Loaded). x.starts) e;
         trails = so.trails ∙ ap (λ (x : Loaded). x.trails) e;
-        row-count = so.row-count ∙ zero_rows l₀ e;
+        row_count = so.row_count ∙ zero_rows l₀ e;
       };
       laid = so.laid;
       rules = so.count;
