@@ -1,5 +1,5 @@
 -- The lowest set bit of a word, and members that a word tells of.
-use Rattle.std.proofs.Common.{◌≡◌, ℕ, zero, suc, ◌+◌, ◌-◌, ◌*◌, ◌/◌, ◌%◌, ◌^◌, ◌<◌, ◌≤◌, Bool, true, false, ◌&&◌, ◌⊎◌, List, get_or, sym, refl, ap, ◌∙◌, inl, inr, pow-suc, arith}
+use Rattle.std.proofs.Common.{◌≡◌, ℕ, zero, suc, ◌+◌, ◌-◌, ◌*◌, ◌/◌, ◌%◌, ◌^◌, ◌<◌, ◌≤◌, Bool, true, false, ◌&&◌, List, get_or, sym, refl, ap, ◌∙◌, inl, inr, pow-suc, arith}
 use lib.Bits.{bit_and, and_le_l}
 use lib.Count.{count_trailing_zeros, under}
 use lib.Pow.{shr_le}

@@ -1,5 +1,5 @@
 -- Bits of a shifted word, and of a set that is moved up a word at a time.
-use Rattle.std.proofs.Common.{◌≡◌, ℕ, suc, ◌+◌, ◌-◌, ◌*◌, ◌/◌, ◌%◌, ◌^◌, ◌<◌, ◌≤◌, true, false, ◌&&◌, eqb, leb, ◌⊎◌, List, get_or, sym, refl, ap, ◌∙◌, inl, inr, lt_of_lt_of_le, mul_assoc, pow-suc, arith, pow_mono, pow-add, le-leb}
+use Rattle.std.proofs.Common.{◌≡◌, ℕ, suc, ◌+◌, ◌-◌, ◌*◌, ◌/◌, ◌%◌, ◌^◌, ◌<◌, ◌≤◌, true, false, ◌&&◌, eqb, leb, ◌⊎◌, List, get_or, sym, ap, ◌∙◌, inl, inr, lt_of_lt_of_le, mul_assoc, pow-suc, arith, pow_mono, pow-add, le-leb}
 use mathlib.Core.Bool.{or-false}
 use native.Mathlib.Nat.{div-eq_of_lt, mul-mod_left}
 use lib.Bits.{bit_or}

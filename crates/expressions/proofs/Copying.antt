@@ -1,5 +1,5 @@
 -- The copies of an interval, laid down from the last to the first.
-use Rattle.std.proofs.Common.{◌≡◌, ℕ, zero, suc, ◌+◌, ◌-◌, ◌*◌, ◌<◌, ◌≤◌, Bool, true, false, cond, ◌&&◌, ◌||◌, eqb, ltb, leb, ◌⊎◌, List, length, sym, refl, ap, ◌∙◌, subst, inl, inr, mul-le-mul_right, suc-mul, zero-mul, arith}
+use Rattle.std.proofs.Common.{◌≡◌, ℕ, zero, suc, ◌+◌, ◌-◌, ◌*◌, ◌<◌, ◌≤◌, Bool, true, false, cond, ◌&&◌, ◌||◌, ltb, leb, ◌⊎◌, List, length, sym, refl, ◌∙◌, subst, inl, inr, mul-le-mul_right, suc-mul, zero-mul, arith}
 use Rattle.std.proofs.lemmas.Bool.{cases_Bool, ltb-false, le-leb}
 use Rattle.bits.specs.Set.{has}
 use Rattle.patterns.specs.Expression.{Expression, Takes, Then, Either}
@@ -10,13 +10,13 @@ use Rattle.positions.specs.declared.Fragment.{Fragment}
 use Rattle.positions.specs.Memory.{Work, member, roomy, between, goes_round, Sequence, Repeats, Copied, copiable, moved_up}
 use Rattle.positions.specs.declared.Repeat.{Repeat}
 use Rattle.positions.specs.declared.Repeat.TheVariants.{Many, Some, Maybe}
-use Rattle.positions.specs.Laid.{Laid, Kept, made}
+use Rattle.positions.specs.Laid.{Laid, made}
 use Rattle.positions.proofs.Sets.{between_below, between_past, copiable_parts}
 use Rattle.positions.proofs.Lays.{laid_then, laid_repeats, laid_copied}
 use Rattle.grammar.specs.declared.Interval.{Interval}
 use Rattle.grammar.specs.declared.Interval.TheVariants.{Between, AtLeast}
 use Rattle.grammar.specs.Expressions.{copy_of, side_by_side, extra}
-use Rattle.expressions.specs.Frames.{Apart, Outside, Plain, Marked, Forms, Placed, Copies}
+use Rattle.expressions.specs.Frames.{Outside, Plain, Marked, Forms, Placed, Copies}
 use Rattle.expressions.proofs.Frames.{outside_refl, outside_trans, outside_wider, laid_outside, outside_linked}
 
 size_cond : (b : Bool) (e f : Expression) → size f ≡ size e → size (cond b e f) ≡ size e

@@ -1,13 +1,12 @@
 -- Memory that is unchanged but for the positions from a up to b.
-use Rattle.std.proofs.Common.{◌≡◌, ℕ, zero, suc, ◌+◌, ◌-◌, ◌<◌, ◌≤◌, Bool, true, false, cond, ◌&&◌, ◌||◌, eqb, ltb, leb, ◌⊎◌, List, sym, refl, ap, ◌∙◌, inl, inr, arith}
-use Rattle.std.proofs.lemmas.Bool.{cases_Bool, and_parts, leb-true, ltb-true, eqb-true, ne_eqb, and_right, and_left, lt-leb, le-ltb}
+use Rattle.std.proofs.Common.{◌≡◌, ℕ, ◌+◌, ◌-◌, ◌<◌, ◌≤◌, Bool, true, false, ◌&&◌, ◌||◌, ltb, leb, ◌⊎◌, List, sym, refl, ap, ◌∙◌, inl, inr, arith}
+use Rattle.std.proofs.lemmas.Bool.{cases_Bool, and_right, lt-leb, le-ltb}
 use Rattle.bits.specs.Set.{has}
 use Rattle.patterns.specs.Expression.{Expression}
-use Rattle.patterns.specs.Positions.{size, last}
+use Rattle.patterns.specs.Positions.{size}
 use Rattle.patterns.proofs.Ranges.{last_in}
 use Rattle.positions.specs.declared.Fragment.{Fragment}
-use Rattle.positions.specs.declared.Repeat.{Repeat}
-use Rattle.positions.specs.Memory.{Work, member, roomy, between, Leaf, Linked, Sequence, Repeats, goes_round, Copied, copiable}
+use Rattle.positions.specs.Memory.{Work, member, between}
 use Rattle.positions.specs.Laid.{Laid, Kept}
 use Rattle.expressions.specs.Frames.{Apart, Outside}
 

@@ -1,16 +1,15 @@
 -- The loops of the reader of expressions, which each grow a tree by one step at a time.
-use Rattle.std.proofs.Common.{◌≡◌, ℕ, zero, suc, ◌+◌, ◌-◌, ◌*◌, ◌<◌, ◌≤◌, Bool, true, false, cond, leb, List, length, get_or, Ok, Err, Result, sym, refl, ap, ◌∙◌, subst, suc-mul, arith}
+use Rattle.std.proofs.Common.{◌≡◌, ℕ, suc, ◌+◌, ◌-◌, ◌*◌, ◌<◌, ◌≤◌, Bool, true, false, cond, leb, List, length, get_or, Ok, Err, Result, sym, refl, ap, ◌∙◌, subst, suc-mul, arith}
 use Rattle.std.proofs.lemmas.Bool.{le-leb, lt-leb}
 use Rattle.patterns.specs.Expression.{Expression, Then, Either}
 use Rattle.patterns.specs.Positions.{size}
 use Rattle.positions.specs.declared.Fragment.{Fragment}
 use Rattle.positions.specs.declared.Repeat.{Repeat}
-use Rattle.positions.specs.Memory.{Work, Sequence, Choice, Repeats}
+use Rattle.positions.specs.Memory.{Work, Choice}
 use Rattle.positions.specs.Laid.{Laid, Kept, made}
 use Rattle.positions.proofs.Lays.{kept_refl, kept_trans, kept_less, laid_kept, laid_then, kept_then, laid_either, laid_repeats, kept_repeats}
 use Rattle.grammar.specs.declared.Fault.{Fault}
 use Rattle.grammar.specs.declared.Bounds.{Bounds}
-use Rattle.grammar.specs.declared.Interval.{Interval}
 use Rattle.grammar.specs.declared.Refusal.TheVariants.{LimitPassed}
 use Rattle.grammar.specs.Outcome.{Out, refused, then, many}
 use Rattle.grammar.specs.Expressions.{Parsed, parsed, joined_by, repeated_by, repeated_more, bounds_at, extra, repeated, repeated_over}

@@ -1,10 +1,9 @@
 -- What the smaller functions of the reader of expressions say.
-use Rattle.std.specs.Prelude.{◌≡◌, ℕ, ◌+◌, ◌<◌, ◌≤◌, Bool, true, false, ◌&&◌, ◌||◌, List, length, Some, None, Ok, Err, Option, Result, slice_index}
-use Rattle.patterns.specs.Expression.{Expression, Then}
-use Rattle.patterns.specs.Positions.{size}
+use Rattle.std.specs.Prelude.{◌≡◌, ℕ, ◌+◌, ◌<◌, ◌≤◌, Bool, true, false, ◌||◌, List, length, Some, None, Err, Option, Result, slice_index}
+use Rattle.patterns.specs.Expression.{Expression}
 use Rattle.positions.specs.declared.Repeat.{Repeat}
 use Rattle.positions.specs.Memory.{Work, Sequence, Repeats}
-use Rattle.positions.specs.Laid.{Laid, Kept, made}
+use Rattle.positions.specs.Laid.{made}
 use Rattle.grammar.specs.declared.Fault.{Fault}
 use Rattle.grammar.specs.declared.Refusal.TheVariants.{Memory}
 use Rattle.grammar.specs.Outcome.{Out, fault, then}

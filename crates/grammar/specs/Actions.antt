@@ -1,5 +1,5 @@
 -- Actions: `;`, or steps.
-use Rattle.std.specs.Prelude.{ℕ, ◌+◌, Bool, true, false, cond, not, ◌&&◌, ◌||◌, List, [], ◌∷◌, ◌++◌, length, Ok, codes, ◌==◌, nat_lt}
+use Rattle.std.specs.Prelude.{ℕ, ◌+◌, Bool, true, false, cond, ◌&&◌, List, [], ◌∷◌, ◌++◌, length, Ok, codes, ◌==◌, nat_lt}
 use Rattle.grammar.specs.declared.Refusal.TheVariants.{Misfit, OutOfBounds}
 use Rattle.grammar.specs.declared.Step.{Step}
 use Rattle.grammar.specs.declared.Step.TheVariants.{Echo, Mark, Begin, More, Less, Reject}

@@ -1,5 +1,5 @@
 -- Escapes, and the byte sets in brackets.
-use Rattle.std.specs.Prelude.{ℕ, ◌+◌, Bool, true, false, cond, not, ◌&&◌, ◌||◌, List, [], ◌∷◌, length, Some, None, Ok, codes, Option, ◌==◌, nat_eq, nat_lt, slice_index}
+use Rattle.std.specs.Prelude.{ℕ, ◌+◌, Bool, true, false, cond, not, ◌&&◌, ◌||◌, List, length, Some, None, Ok, codes, Option, ◌==◌, nat_eq, nat_lt, slice_index}
 use Rattle.patterns.specs.Expression.{Bytes}
 use Rattle.classes.specs.declared.Class.{Class}
 use Rattle.classes.specs.Posix.{members, class_named}

@@ -1,5 +1,5 @@
 -- Start conditions: how they are declared, and how they are named.
-use Rattle.std.specs.Prelude.{ℕ, zero, suc, ◌+◌, Bool, true, false, cond, not, ◌&&◌, ◌||◌, List, [], ◌∷◌, ◌++◌, length, Some, None, Ok, codes, Option, ◌==◌, nat_lt}
+use Rattle.std.specs.Prelude.{ℕ, suc, ◌+◌, Bool, true, false, cond, ◌&&◌, ◌||◌, List, [], ◌∷◌, ◌++◌, length, Some, None, Ok, codes, Option, ◌==◌, nat_lt}
 use Rattle.std.specs.Str.{bytes_eq}
 use Rattle.grammar.specs.declared.Named.{Named}
 use Rattle.grammar.specs.declared.Refusal.TheVariants.{Misfit, UnknownName, DeclaredAgain, LimitPassed}

@@ -1,5 +1,5 @@
 -- Expressions: alternation, branch, piece and atom. Each is read at a place, with some positions already used, and gives a tree.
-use Rattle.std.specs.Prelude.{ℕ, zero, suc, ◌+◌, ◌-◌, ◌*◌, Bool, true, false, cond, not, ◌&&◌, ◌||◌, List, [], ◌∷◌, ◌++◌, length, Some, None, Ok, Err, Option, ◌==◌, nat_eq, nat_le, nat_lt, slice_index}
+use Rattle.std.specs.Prelude.{ℕ, zero, suc, ◌+◌, ◌-◌, ◌*◌, Bool, cond, not, ◌&&◌, ◌||◌, List, length, Some, None, Ok, Option, ◌==◌, nat_eq, nat_le, nat_lt, slice_index}
 use Rattle.patterns.specs.Expression.{Bytes, Expression, Takes, Then, Either}
 use Rattle.patterns.specs.Expression as expression
 use Rattle.patterns.specs.Positions.{size}

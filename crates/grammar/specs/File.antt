@@ -1,5 +1,5 @@
 -- The rule file as a whole.
-use Rattle.std.specs.Prelude.{ℕ, ◌+◌, Bool, true, false, cond, not, ◌&&◌, ◌||◌, List, [], ◌∷◌, ◌++◌, length, Some, None, Ok, Option, ◌==◌, nat_eq, nat_le, nat_lt}
+use Rattle.std.specs.Prelude.{ℕ, ◌+◌, Bool, true, false, cond, ◌||◌, List, [], ◌∷◌, ◌++◌, length, Some, None, Ok, Option, ◌==◌, nat_eq, nat_le, nat_lt}
 use Rattle.patterns.specs.Expression.{Expression, Takes}
 use Rattle.patterns.specs.Positions.{size}
 use Rattle.grammar.specs.declared.Refusal.TheVariants.{FileTooLong, Misfit, LimitPassed}

@@ -1,5 +1,5 @@
 -- Loaded memory that nothing is loaded into.
-use Rattle.std.specs.Prelude.{false, List, replicate}
+use Rattle.std.specs.Prelude.{false, replicate}
 use Rattle.grammar.specs.declared.Step.TheVariants.{Nothing}
 use Rattle.loaded.specs.declared.Row.{Row}
 use Rattle.loaded.specs.declared.Rule.{Rule}

@@ -1,7 +1,7 @@
 -- How the loops over a file's bytes follow the definitions.
-use Rattle.std.proofs.Common.{◌≡◌, ℕ, zero, suc, ◌+◌, ◌<◌, ◌≤◌, Bool, true, false, cond, List, [], ◌∷◌, length, get_or, drop, sym, refl, ap, ◌∙◌, add-one, arith, drop-cons, eq-eqb, ne_eqb}
+use Rattle.std.proofs.Common.{◌≡◌, ℕ, suc, ◌+◌, ◌<◌, ◌≤◌, List, length, get_or, drop, add-one, drop-cons, eq-eqb, ne_eqb}
 use Rattle.std.proofs.lemmas.List.{drop_all}
-use Rattle.report.specs.Lines.{newline, newlines, line_start, before_newline}
+use Rattle.report.specs.Lines.{newlines, line_start, before_newline}
 
 module _ (s : List ℕ) (n : ℕ) where
   pub ends_here : n < length s → get_or s n 0 ≡ 10 → before_newline (drop n s) ≡ 0

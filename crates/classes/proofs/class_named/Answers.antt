@@ -1,6 +1,5 @@
-use Rattle.std.proofs.Common.{◌≡◌, Decides, arith}
+use Rattle.std.proofs.Common.{arith}
 use Rattle.std.proofs.lemmas.Slice.Eq.{slice_eq-Decides}
-use Rattle.classes.specs.Posix.{class_named}
 use Rattle.classes.proofs.Names.{names, goes_on, ends_at}
 use Rattle.classes.proofs.class_named.Goals as goal
 use Rattle.std.proofs.lemmas.Bool.Decides.{Decides-eqb}

@@ -1,8 +1,7 @@
-use Rattle.std.proofs.Common.{◌≡◌, ℕ, ◌+◌, ◌-◌, Bool, true, false, cond, length, Err, sym, refl, ap, ◌∙◌, arith}
+use Rattle.std.proofs.Common.{◌+◌, length, Err, sym, refl, ap, ◌∙◌, arith}
 use Rattle.std.proofs.lemmas.Result.{err_from_is_err_and}
-use Rattle.grammar.specs.declared.Refusal.TheVariants.{Misfit}
-use Rattle.grammar.specs.Outcome.{Out, then, many, refused}
-use Rattle.grammar.specs.Expressions.{Parsed, parsed, inside, atom_by, marked, repeated_more, piece_by, branch_goes_on, branch_more, branch_by, bar_ahead, alternation_more, alternation_by, joined_by, closed_group}
+use Rattle.grammar.specs.Outcome.{Out, then, many}
+use Rattle.grammar.specs.Expressions.{Parsed, inside, marked, repeated_more, piece_by, branch_goes_on, branch_more, branch_by, bar_ahead, alternation_more, closed_group}
 use Rattle.grammar.specs.declared.Fault.{Fault}
 use Rattle.grammar.specs.Expressions.{repeat_mark}
 use Rattle.expressions.specs.Lays.{parsed_as}

@@ -1,8 +1,8 @@
-use Rattle.std.proofs.Common.{◌≡◌, not, length, sym, refl, ap, ◌∙◌, arith}
+use Rattle.std.proofs.Common.{not, refl, ap, ◌∙◌, arith}
 use Rattle.std.proofs.lemmas.Result.{err_from_is_err_and}
-use Rattle.grammar.specs.Outcome.{Out, then, many}
+use Rattle.grammar.specs.Outcome.{Out, then}
 use Rattle.tokens.proofs.Items.{stands_below}
-use Rattle.grammar.specs.Expressions.{Parsed, in_quotes, quoted_byte, quoted_more, past_quote}
+use Rattle.grammar.specs.Expressions.{Parsed, in_quotes, quoted_more, past_quote}
 use Rattle.expressions.proofs.Atoms.{quote_is}
 use Rattle.expressions.proofs.Growing.{grown_turn, grown_stop, grown_fails, past_lays, lays_by, Code}
 use Rattle.expressions.proofs.quote.Goals as goal

@@ -1,5 +1,5 @@
 use Rattle.std.proofs.Common.{arith}
-use Rattle.expressions.proofs.Growing.{interval_steps, interval_full}
+use Rattle.expressions.proofs.Growing.{interval_steps}
 use Rattle.expressions.proofs.repeated.Goals as goal
 
 pub returns : goal.returns

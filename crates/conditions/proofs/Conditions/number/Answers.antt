@@ -1,6 +1,6 @@
-use Rattle.std.proofs.Common.{◌≡◌, min, length, take, sym, ◌∙◌, arith, length-take, rules}
+use Rattle.std.proofs.Common.{length-take, rules}
 use Rattle.std.proofs.lemmas.List.{length-map}
-use Rattle.conditions.specs.Known.{known, text}
+use Rattle.conditions.specs.Known.{known}
 use Rattle.conditions.proofs.Conditions.number.Goals as goal
 
 pub returns : goal.returns

@@ -1,4 +1,3 @@
-use Rattle.std.proofs.Common.{◌≤◌}
 use Rattle.rule_cases.specs.Runs.{Counts}
 use Rattle.rule_cases.proofs.escaped.count.Given as goal
 
