@@ -24,7 +24,7 @@ impl<const W: usize> Bits<W> {
         Bits { words: [0; W] }
     }
 
-    // The number of words. Its contract says what generic code does not know of the array by itself, that its length is W.
+    // The number of words: W, as the type says.
     fn width(&self) -> usize
         ensures { (result ≡ W) × (length self.now.words ≡ W) }
     {

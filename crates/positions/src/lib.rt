@@ -33,7 +33,7 @@ fn is_roomy(work: &[PositionSet]) -> bool
     work.len() >= 2 * POSITIONS
 }
 
-// The same numbers, in as many words as positions have. The set comes by value, since only then is it known to have no member past its words.
+// The same numbers, in as many words as positions have.
 fn wide(bytes: ByteSet) -> PositionSet
     ensures { (q : ℕ) → has result.words q ≡ has bytes.words q }
 {

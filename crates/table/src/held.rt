@@ -6,7 +6,7 @@ ghost use Rattle.table.specs.Readings.{initial_only, start_row, next_row, end_ma
 use crate::check;
 use loaded::{Loaded, Row};
 
-// The parts of Whole stand one by one, since a ghost field holds only a fact of few binders. Rows past the count are cut off.
+// The parts of Whole stand one by one. Rows past the count are cut off.
 #[derive(Drop)]
 pub struct Table<'a> {
     loaded: Loaded,
