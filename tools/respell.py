@@ -67,7 +67,7 @@ def defined(path, text):
             continue
         m = DEFINED.match(line) if line[:1].strip() else FIELD.match(line)
         if m and not (is_goal_file(path) and m.group(1) in goals):
-            yield m.group(1), not line[:1].strip()
+            yield m.group(1)
 
 
 def spelled(name):
@@ -78,18 +78,26 @@ def spelled(name):
     return name.replace("-", "_")
 
 
+def is_own(module, own):
+    return module.startswith("Rattle.") and module.split(".")[1] in own
+
+
+def crate_of(path):
+    return os.path.relpath(path, ROOT).split("/")[1]
+
+
 def imported_from_elsewhere(text, own):
     """Names that the file brings in from the library."""
     found = set()
     for module, names in IMPORT.findall(text):
-        if not (module.startswith("Rattle.") and module.split(".")[1] in own):
+        if not is_own(module, own):
             for n in names.split(","):
                 found |= set(n.strip().split(" as "))
     return found
 
 
 def stands_for_more(path, text, word):
-    """Whether the file has this word already, other than as a module's name in a path or as a function of src/, which a definition may share its name with."""
+    """Whether the file has this word already, but as a module's name in a path or as a function of src/, whose name a definition may have too."""
     text = STRING.sub("", text)
     w = re.escape(word)
     if path.endswith(".rt"):
@@ -98,65 +106,67 @@ def stands_for_more(path, text, word):
     return word in set(WORD.findall(re.sub(r"^--.*$", "", text, flags=re.M)))
 
 
-def masked(text):
-    return STRING.split(text), STRING.findall(text)
-
-
-def main():
-    dry = "--dry" in sys.argv
-    own = {os.path.basename(c) for c in glob.glob(os.path.join(ROOT, "crates", "*"))}
-    read = {p: open(p, encoding="utf-8").read() for p in texts()}
+def renamed(read, own):
+    """Where each name is defined, or brought into src/ under a name of its own, and the names that are turned, each with its new spelling."""
     where = collections.defaultdict(set)
     for path, text in read.items():
         if path.endswith(".antt"):
-            for name, _ in defined(path, text):
+            for name in defined(path, text):
                 where[name].add(path)
-    # what a .rt file brings in under a name of its own
-    for path, text in read.items():
         for module, names in IMPORT.findall(text):
-            if module.startswith("Rattle.") and module.split(".")[1] in own:
+            if is_own(module, own):
                 for n in names.split(","):
                     if " as " in n:
                         where[n.strip().split(" as ")[1]].add(path)
-    turned = {}
-    for name in where:
-        new = NAMED.get(name, spelled(name))
-        if new != name and name not in KEPT:
-            turned[name] = new
-    bad = 0
+    new = {name: NAMED.get(name, spelled(name)) for name in where if name not in KEPT}
+    return where, {name: n for name, n in new.items() if n != name}
+
+
+def clashes_in_crates(where, turned):
+    """Names of one crate that fall together."""
     by_new = collections.defaultdict(set)
     for old, new in turned.items():
         by_new[new].add(old)
     for new, olds in sorted(by_new.items()):
-        crates = [{os.path.relpath(p, ROOT).split("/")[1] for p in where[n]} for n in sorted(olds) + ([new] if new in where and new not in turned else [])]
+        if new in where and new not in turned:
+            olds = olds | {new}
+        crates = [{crate_of(p) for p in where[n]} for n in sorted(olds)]
         if any(a & b for i, a in enumerate(crates) for b in crates[:i]):
-            bad += 1
-            print(f"falls together: {sorted(olds)} -> {new}" + (f", which stands in {sorted(os.path.relpath(p, ROOT) for p in where[new])}" if new in where else ""))
+            yield f"falls together: {sorted(olds)} -> {new}"
+
+
+def clashes_in(path, text, turned, own):
+    """Names that fall together in a file, or that are not the repository's to turn there."""
+    outside, goals, met = imported_from_elsewhere(text, own), goals_of(text), {}
+    for w in sorted(set(WORD.findall(STRING.sub("", text))) & set(turned)):
+        if met.setdefault(turned[w], w) != w:
+            yield f"{w} and {met[turned[w]]} fall together"
+        if w in outside:
+            yield f"{w} is brought in from the library"
+        if w in goals:
+            yield f"{w} is a goal's name too"
+        if w not in FIELDS and turned[w] not in turned and stands_for_more(path, text, turned[w]):
+            yield f"{w} -> {turned[w]}, which the file has already"
+
+
+def turn(text, turned):
+    """The text with each name turned, but in strings."""
+    between = [WORD.sub(lambda m: turned.get(m.group(0), m.group(0)), part) for part in STRING.split(text)]
+    return "".join(a + b for a, b in zip(between, STRING.findall(text) + [""]))
+
+
+def main():
+    own = {os.path.basename(c) for c in glob.glob(os.path.join(ROOT, "crates", "*"))}
+    read = {path: open(path, encoding="utf-8").read() for path in texts()}
+    where, turned = renamed(read, own)
+    said = list(clashes_in_crates(where, turned))
     for path, text in sorted(read.items()):
-        words = set(WORD.findall(STRING.sub("", text)))
-        outside = imported_from_elsewhere(text, own)
-        goals = goals_of(text)
-        met = {}
-        for w in sorted(words & set(turned)):
-            if met.setdefault(turned[w], w) != w:
-                bad += 1
-                print(f"{os.path.relpath(path, ROOT)}: {w} and {met[turned[w]]} fall together")
-            if w in outside:
-                bad += 1
-                print(f"{os.path.relpath(path, ROOT)}: {w} is brought in from the library")
-            if w in goals:
-                bad += 1
-                print(f"{os.path.relpath(path, ROOT)}: {w} is a goal's name too")
-            if w not in FIELDS and turned[w] not in turned and stands_for_more(path, text, turned[w]):
-                bad += 1
-                print(f"{os.path.relpath(path, ROOT)}: {w} -> {turned[w]}, which the file has already")
-    print(f"{len(turned)} names turned, {bad} to look at")
-    if dry or bad:
-        return 1 if bad else 0
+        said += [f"{os.path.relpath(path, ROOT)}: {it}" for it in clashes_in(path, text, turned, own)]
+    print("\n".join([*said, f"{len(turned)} names turned, {len(said)} to look at"]))
+    if said or "--dry" in sys.argv:
+        return 1 if said else 0
     for path, text in read.items():
-        parts, strings = masked(text)
-        parts = [WORD.sub(lambda m: turned.get(m.group(0), m.group(0)), p) for p in parts]
-        new = "".join(a + b for a, b in zip(parts, strings + [""]))
+        new = turn(text, turned)
         if new != text:
             with open(path, "w", encoding="utf-8") as f:
                 f.write(new)
