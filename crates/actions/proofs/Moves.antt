@@ -7,8 +7,8 @@ use Rattle.grammar.specs.declared.Stage.{Stage}
 use Rattle.grammar.specs.declared.Stage.TheVariants.{Writing, Begun, Ended}
 use Rattle.grammar.specs.declared.Step.{Step}
 use Rattle.grammar.specs.declared.Step.TheVariants.{Echo, Mark, Begin, More, Less, Reject}
-use Rattle.grammar.specs.declared.Stepped.{Stepped}
-use Rattle.grammar.specs.declared.Named.{Named}
+use Rattle.grammar.specs.declared.Read.{Read}
+use Rattle.grammar.specs.declared.Read.{Read}
 use Rattle.grammar.specs.Outcome.{Out, refused, then}
 use Rattle.grammar.specs.Bytes.{within, stands, digits, number, literal, part, name_length}
 use Rattle.grammar.specs.Conditions.{Conditions, condition_at, numbered, known}

@@ -3,7 +3,7 @@ use Rattle.std.proofs.Common.{◌≡◌, ℕ, ◌+◌, Bool, false, cond, ◌⊎
 use Rattle.grammar.specs.declared.Stage.{Stage}
 use Rattle.grammar.specs.declared.Stage.TheVariants.{Writing, Begun}
 use Rattle.grammar.specs.declared.Step.TheVariants.{Mark, More, Less}
-use Rattle.grammar.specs.declared.Stepped.{Stepped}
+use Rattle.grammar.specs.declared.Read.{Read}
 use Rattle.grammar.specs.Outcome.{Out, then}
 use Rattle.grammar.specs.Bytes.{blank, span, stands, literal}
 use Rattle.grammar.specs.Actions.{stepped, numeral, mark_at, yield_at, more_or_less_at, past_blanks}

@@ -6,7 +6,7 @@ use Rattle.grammar.specs.declared.Stage.{Stage}
 use Rattle.grammar.specs.declared.Stage.TheVariants.{Writing, Begun, Ended}
 use Rattle.grammar.specs.declared.Step.{Step}
 use Rattle.grammar.specs.declared.Step.TheVariants.{Nothing}
-use Rattle.grammar.specs.declared.Stepped.{Stepped}
+use Rattle.grammar.specs.declared.Read.{Read}
 use Rattle.grammar.specs.Outcome.{Out}
 use Rattle.grammar.specs.Actions.{Action, writes}
 use Rattle.actions.specs.declared.Number.{Number}

@@ -3,7 +3,7 @@ use Rattle.std.proofs.Common.{◌≡◌, ℕ, zero, suc, ◌+◌, ◌-◌, ◌<�
 use Rattle.std.proofs.lemmas.Bool.{and_parts, not-false}
 use Rattle.classes.specs.declared.Class.{Class}
 use Rattle.classes.specs.Posix.{members, class_named}
-use Rattle.grammar.specs.declared.Element.{Element}
+use Rattle.grammar.specs.declared.Read.{Read}
 use Rattle.grammar.specs.declared.Fault.{Fault}
 use Rattle.grammar.specs.declared.Refusal.TheVariants.{Misfit}
 use Rattle.grammar.specs.Outcome.{Out, refused, then, many}

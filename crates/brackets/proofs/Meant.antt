@@ -6,7 +6,7 @@ use Rattle.bits.specs.Set.{has}
 use Rattle.classes.specs.declared.Class.{Class}
 use Rattle.classes.specs.declared.Class.TheVariants.{Alnum, Alpha, Blank, Cntrl, Digit, Graph, Lower, Print, Punct, Space, Upper, Xdigit}
 use Rattle.classes.specs.Posix.{members, class_named}
-use Rattle.grammar.specs.declared.Element.{Element}
+use Rattle.grammar.specs.declared.Read.{Read}
 use Rattle.grammar.specs.declared.Fault.{Fault}
 use Rattle.grammar.specs.declared.Refusal.TheVariants.{Misfit, OutOfBounds}
 use Rattle.grammar.specs.Outcome.{Out, refused, then, many}

@@ -2,7 +2,7 @@
 use Rattle.std.proofs.Common.{◌≡◌, ℕ, ◌+◌, ◌<◌, ◌≤◌, Bool, true, false, List, length, Ok, Err, sym, refl, ap, ◌∙◌}
 use Rattle.std.proofs.lemmas.Bool.{lt-ltb, le-ltb}
 use Rattle.grammar.specs.declared.Fault.{Fault}
-use Rattle.grammar.specs.declared.Named.{Named}
+use Rattle.grammar.specs.declared.Read.{Read}
 use Rattle.grammar.specs.declared.Refusal.TheVariants.{Misfit}
 use Rattle.grammar.specs.Outcome.{Out, then, many}
 use Rattle.grammar.specs.Bytes.{stands}

@@ -9,7 +9,7 @@ use Rattle.positions.specs.Memory.{Work, Choice}
 use Rattle.positions.specs.Laid.{Laid, Kept, made}
 use Rattle.positions.proofs.Lays.{kept_refl, kept_trans, kept_less, laid_kept, laid_then, kept_then, laid_either, laid_repeats, kept_repeats}
 use Rattle.grammar.specs.declared.Fault.{Fault}
-use Rattle.grammar.specs.declared.Bounds.{Bounds}
+use Rattle.grammar.specs.declared.Read.{Read}
 use Rattle.grammar.specs.declared.Refusal.TheVariants.{LimitPassed}
 use Rattle.grammar.specs.Outcome.{Out, refused, then, many}
 use Rattle.grammar.specs.Expressions.{Parsed, parsed, joined_by, repeated_by, repeated_more, bounds_at, extra, repeated, repeated_over}

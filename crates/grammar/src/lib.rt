@@ -1,12 +1,15 @@
 // What a rule file can say, and how it is turned down. The grammar itself stands in specs/, a definition for each of its sentences.
 #![tactic(auto)]
 
-ghost use Rattle.std.specs.Prelude.{◌≡◌};
+ghost use Rattle.std.specs.Prelude.{◌≡◌, Some};
 ghost use Rattle.grammar.specs.declared.Refusal.TheVariants.{Misfit};
 ghost use Rattle.grammar.specs.Outcome.{fault as fault_of};
+ghost use Rattle.grammar.specs.Refusals.{number_of, words_of};
+
+use std::fmt;
 
 // Why a rule file is turned down; each reason has its number.
-#[derive(Clone, Copy)]
+#[derive(Clone, Copy, PartialEq, Eq)]
 pub enum Refusal {
     Memory = 1,
     FileTooLong = 2,
@@ -18,23 +21,22 @@ pub enum Refusal {
 }
 
 // The first fault of a file, and the byte that it points at, counted from 0.
-#[derive(Clone, Copy)]
+#[derive(Clone, Copy, PartialEq, Eq)]
 pub struct Fault {
     pub refusal: Refusal,
     pub place: usize,
 }
 
 // How often an interval repeats what stands before it: `{m,n}`, with `{m}` as `{m,m}`, or `{m,}`.
-#[derive(Clone, Copy)]
+#[derive(Clone, Copy, PartialEq, Eq)]
 pub enum Interval {
     Between(usize, usize),
     AtLeast(usize),
 }
 
-// One step of an action. `Nothing` fills the places that no step takes.
-#[derive(Clone, Copy)]
+// One step of an action.
+#[derive(Clone, Copy, PartialEq, Eq)]
 pub enum Step {
-    Nothing,
     Echo,
     Mark(u8),
     Begin(u8),
@@ -44,39 +46,44 @@ pub enum Step {
 }
 
 // What may follow the steps read so far: writing steps, no more of them once a condition is begun, or none at all.
-#[derive(Clone, Copy)]
+#[derive(Clone, Copy, PartialEq, Eq)]
 pub enum Stage {
     Writing,
     Begun,
     Ended,
 }
 
-// One byte that is meant, as itself or by an escape, and the place behind it.
+// What is read: a byte, a set of bytes, a condition, an interval, a step; and the place behind it.
 #[derive(Clone, Copy)]
-pub struct Element {
-    pub byte: u8,
+pub struct Read<T> {
+    pub value: T,
     pub next: usize,
 }
 
-// An interval's bounds, and the place behind its `}`.
-#[derive(Clone, Copy)]
-pub struct Bounds {
-    pub interval: Interval,
-    pub next: usize,
+// The number that a refusal is reported by.
+impl From<Refusal> for u8 {
+    ghost from_gives = { λ refusal number. number ≡ number_of refusal };
+
+    fn from(refusal: Refusal) -> u8 {
+        refusal as u8
+    }
 }
 
-// A condition that is named, and the place behind its name.
-#[derive(Clone, Copy)]
-pub struct Named {
-    pub condition: u8,
-    pub next: usize,
-}
+// A refusal in words.
+impl fmt::Display for Refusal {
+    ghost output = { λ refusal. Some (words_of refusal) };
 
-// One step, and the place behind it.
-#[derive(Clone, Copy)]
-pub struct Stepped {
-    pub step: Step,
-    pub next: usize,
+    fn fmt<W: fmt::Write>(&self, f: &mut fmt::Formatter<W>) -> fmt::Result {
+        f.write_str(match self {
+            Refusal::Memory => "the work memory is too small",
+            Refusal::FileTooLong => "the file is longer than 8,192 bytes",
+            Refusal::Misfit => "this does not fit the grammar here",
+            Refusal::UnknownName => "no condition or class has this name",
+            Refusal::DeclaredAgain => "this condition is declared already",
+            Refusal::OutOfBounds => "this number or range is out of bounds",
+            Refusal::LimitPassed => "this passes a limit of the rule file",
+        })
+    }
 }
 
 // The fault of this kind at a place.

@@ -1,5 +1,5 @@
 use Rattle.std.specs.Prelude.{ℕ, ◌<◌, ◌≤◌, Ok, Err, Result}
-use Rattle.grammar.specs.declared.Bounds.{Bounds}
+use Rattle.grammar.specs.declared.Read.{Read}
 use Rattle.grammar.specs.declared.Fault.{Fault}
 
 -- what was read is at least one byte, and ends within n

@@ -6,7 +6,7 @@ use Rattle.patterns.specs.Expression as expression
 use Rattle.patterns.specs.Positions.{size}
 use Rattle.grammar.specs.declared.Interval.{Interval}
 use Rattle.grammar.specs.declared.Interval.TheVariants.{Between, AtLeast}
-use Rattle.grammar.specs.declared.Bounds.{Bounds}
+use Rattle.grammar.specs.declared.Read.{Read}
 use Rattle.grammar.specs.Outcome.{Out, many}
 use Rattle.grammar.specs.Bytes.{passes, stands, digit, digits, number}
 use Rattle.grammar.specs.Brackets.{Chosen}

@@ -3,7 +3,7 @@ use Rattle.std.proofs.Common.{◌≡◌, ℕ, ◌+◌, ◌<◌, ◌≤◌, Bool,
 use Rattle.std.proofs.lemmas.Bool.{and_parts, ltb-true, not-false}
 use Rattle.classes.specs.declared.Class.{Class}
 use Rattle.classes.specs.Posix.{members, class_named}
-use Rattle.grammar.specs.declared.Element.{Element}
+use Rattle.grammar.specs.declared.Read.{Read}
 use Rattle.grammar.specs.Outcome.{then, many}
 use Rattle.grammar.specs.Bytes.{stands, part, name_length}
 use Rattle.grammar.specs.Brackets.{escapable, escape_at, element_at, Chosen, chosen, reserved, range_ahead, range_end, ranged, from_element, closed_class, class_at, dash, member_at, in_bracket, joined, member_more, closed_bracket, members_at, bracket_at}

@@ -2,7 +2,7 @@
 use Rattle.std.proofs.Common.{◌≡◌, ℕ, suc, ◌+◌, ◌<◌, ◌≤◌, Bool, true, false, cond, ◌&&◌, eqb, ltb, List, [], ◌∷◌, ◌++◌, length, Some, None, Option, inl, inr, arith, length-append}
 use Rattle.std.specs.Str.{bytes_eq}
 use Rattle.std.proofs.lemmas.Bool.{and_parts, or_cases, ltb-true, eqb-true, eqb-false}
-use Rattle.grammar.specs.declared.Named.{Named}
+use Rattle.grammar.specs.declared.Read.{Read}
 use Rattle.grammar.specs.Outcome.{then, many}
 use Rattle.grammar.specs.Bytes.{blank, passes, stands, span, part, name_length}
 use Rattle.grammar.specs.Conditions.{Conditions, only_initial, later, numbered, Declared, with_name, declared_as, declare_at, declare_more, line_goes_on, declared, declaration, known, condition_at, Picked, picked_first, picked_too, comma_ahead, pick_more, closed_list, picked_at, active_at}

@@ -1,7 +1,7 @@
 -- Actions: at most ten steps, each in its bounds.
 use Rattle.std.proofs.Common.{◌≡◌, ℕ, suc, ◌+◌, ◌<◌, ◌≤◌, Bool, true, false, ◌&&◌, eqb, ltb, leb, List, [], ◌∷◌, ◌++◌, length, codes, sym, arith, length-append}
 use Rattle.std.proofs.lemmas.Bool.{and_parts, ltb-true, leb-true, false≢true}
-use Rattle.grammar.specs.declared.Stepped.{Stepped}
+use Rattle.grammar.specs.declared.Read.{Read}
 use Rattle.grammar.specs.declared.Step.{Step}
 use Rattle.grammar.specs.declared.Step.TheVariants.{Echo, Mark, Begin, More, Less, Reject}
 use Rattle.grammar.specs.declared.Stage.{Stage}

@@ -2,7 +2,7 @@
 use Rattle.std.specs.Prelude.{◌≡◌, ℕ, ◌+◌, ◌*◌, ◌≤◌, true, false, ◌↔◌, List, Ok, Option}
 use Rattle.patterns.specs.Expression.{Has}
 use Rattle.patterns.specs.Positions.{size}
-use Rattle.grammar.specs.declared.Bounds.{Bounds}
+use Rattle.grammar.specs.declared.Read.{Read}
 use Rattle.grammar.specs.Bytes.{stands}
 use Rattle.grammar.specs.Expressions.{Parsed, Parser, piece_by, bounds_at, extra, repeated, branch_goes_on, branch_more, branch_by, inside}
 use Rattle.laws.specs.Intervals.{Power, Times}
