@@ -1,5 +1,8 @@
 -- How the loops over bytes follow the definitions, and the bounds of what is read.
-use Rattle.std.proofs.Common.{◌≡◌, ℕ, zero, suc, ◌+◌, ◌-◌, ◌*◌, ◌^◌, ◌<◌, ◌≤◌, Bool, true, false, cond, eqb, ltb, leb, ◌⊎◌, List, [], ◌∷◌, length, get_or, drop, Ok, sym, refl, ap, ◌∙◌, inl, inr, pow-suc, arith, ltb-true, le-ltb, eqb-true, leb-true}
+use Rattle.std.proofs.Common.{◌≡◌, ℕ, zero, suc, ◌+◌, ◌-◌, ◌*◌, ◌^◌, ◌<◌, ◌≤◌, Bool, true, false, ◌&&◌, cond, eqb, ltb, leb, ◌⊎◌, List, [], ◌∷◌, length, get_or, take, drop, Ok, sym, refl, ap, ◌∙◌, inl, inr, pow-suc, arith, ltb-true, ltb-false, le-ltb, eqb-true, leb-true}
+use Rattle.std.specs.List.{take_while}
+use Rattle.std.proofs.Math.Seq.{drop-cons}
+use Rattle.std.proofs.lemmas.List.Sums.{take_while-cons}
 use native.Mathlib.Nat.{pow-le-pow_right}
 use Rattle.std.proofs.lemmas.Bool.{and_parts, and_left}
 use Rattle.std.proofs.lemmas.List.{drop_more, drop_all}
@@ -31,27 +34,23 @@ module _ (t : ℕ → Bool) (s : List ℕ) where
   unfolding span
   go k n e = rw e
 
-  pub span_starts : (m n : ℕ) → 0 + span t (m - 0) s n ≡ span t m s n
-  span_starts m n =
-      let a : m - 0 ≡ m = omega arith in
-      omega (arith, ap (λ (x : ℕ). span t x s n) a)
-
-  pub span_stops : (m k n whole : ℕ) → k + span t (m - k) s n ≡ whole → false ≡ passes t s n → k ≡ whole
-  span_stops m k n whole h e = omega (arith, stop (m - k) n (sym e))
-
-  pub span_goes : (m k n whole : ℕ) → k < m → k + span t (m - k) s n ≡ whole → true ≡ passes t s n → (k + 1) + span t (m - (k + 1)) s (n + 1) ≡ whole
-  span_goes m k n whole lt h e =
-      let a : m - k ≡ suc (m - (k + 1)) = omega arith in
-      let b : suc n ≡ n + 1 = omega arith in
-      let f : span t (m - k) s n ≡ suc (span t (m - (k + 1)) s (n + 1)) = ap (λ (x : ℕ). span t x s n) a ∙ go (m - (k + 1)) n (sym e) ∙ ap (λ (x : ℕ). suc (span t (m - (k + 1)) s x)) b in
-      omega (arith, f)
-
-  pub span_ends : (m k n whole : ℕ) → m ≤ k → k ≤ m → k + span t (m - k) s n ≡ whole → m ≡ whole
+  -- the bytes that are counted are the first of the list that pass
+  pub span_list : (k n : ℕ) → length (take_while t (take k (drop n s))) ≡ span t k s n
   unfolding span
-  span_ends m k n whole lo hi h =
-      let a : m - k ≡ 0 = omega arith in
-      let f : span t (m - k) s n ≡ 0 = ap (λ (x : ℕ). span t x s n) a in
-      omega (arith, f)
+  span_list zero n = refl
+  span_list (suc k) n = at (ltb n (length s)) refl (span_list k (suc n))
+    where
+      at : (b : Bool) → b ≡ ltb n (length s) → length (take_while t (take k (drop (suc n) s))) ≡ span t k s (suc n) →
+          length (take_while t (take (suc k) (drop n s))) ≡ cond (b && t (get_or s n 0)) (suc (span t k s (suc n))) 0
+      at true e more =
+          let lt : n < length s = ltb-true _ _ (sym e) in
+          rw (drop-cons s n 0 lt, take_while-cons t (get_or s n 0) (take k (drop (suc n) s))) (through (t (get_or s n 0)) more)
+        where
+          through : (b : Bool) → length (take_while t (take k (drop (suc n) s))) ≡ span t k s (suc n) →
+              length (cond b (get_or s n 0 ∷ take_while t (take k (drop (suc n) s))) []) ≡ cond b (suc (span t k s (suc n))) 0
+          through true h = ap suc h
+          through false h = refl
+      at false e more = rw (drop_all n s (ltb-false _ _ (sym e))) refl
 
   -- the bytes that are counted are there, and pass
   pub span_within : (k n : ℕ) → n ≤ length s → n + span t k s n ≤ length s
