@@ -1,7 +1,7 @@
 // The smallest items of a rule file: bytes of a kind, names, numbers, fixed words, and lines without their trailing blanks.
 #![tactic(auto)]
 
-ghost use Rattle.std.specs.Prelude.{◌≡◌, ℕ, ◌+◌, ◌-◌, ◌^◌, ◌<◌, ◌≤◌, min, List, length, take, take_while, drop};
+ghost use Rattle.std.specs.Prelude.{◌≡◌, ℕ, ◌+◌, ◌-◌, ◌^◌, ◌<◌, ◌≤◌, min, List, length, take, take_while, drop, zip, ◌==◌};
 ghost use Rattle.grammar.specs.Bytes.{stands as stands_at, passes as passes_at, span as span_at, part, digits as digits_at, number as number_at, literal as literal_at};
 ghost use Rattle.grammar.specs.Lines.{line_end, next_line, trimmed as trimmed_at};
 ghost use Rattle.tokens.specs.Kinds.{holds};
@@ -111,18 +111,25 @@ pub fn value(digits: &[u8]) -> usize
     value
 }
 
+// How many bytes of the word, from its first on, stand at n.
+fn common(s: &[u8], n: usize, word: &[u8]) -> usize
+    ensures { result ≡ length (take_while (λ pair. pair.1 == pair.0) (zip word.now (drop n s.now))) }
+{
+    word.iter()
+        .zip(s.iter().skip(n))
+        .take_while(|(b, there)| there == b)
+        .count()
+}
+
 // The place behind these bytes, where they stand at n.
 pub fn literal(s: &[u8], n: usize, word: &[u8]) -> Result<usize, Fault>
     ensures { result ≡ literal_at word.now s.now n }
 {
-    let mut at = n;
-    for b in word {
-        if !stands(s, at, *b) {
-            return Err(misfit(at));
-        }
-        at += 1;
+    let long = common(s, n, word);
+    if long < word.len() {
+        return Err(misfit(n + long));
     }
-    Ok(at)
+    Ok(n + long)
 }
 
 // Where the bytes from `at` up to `end` end without their trailing blanks.
