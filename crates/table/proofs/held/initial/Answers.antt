@@ -1,7 +1,10 @@
-use Rattle.table.proofs.Kept.{initial_kept}
+use Rattle.std.proofs.Common.{[], sym, ap, ◌∙◌, subst}
+use Rattle.loaded.specs.declared.Loaded.{Loaded}
+use Rattle.table.specs.Memory.{Whole}
+use Rattle.table.proofs.Kept.{initial_whole, initial_exact}
 use Rattle.table.proofs.held.initial.Goals as goal
 
 pub invariant_of-result : goal.invariant_of-result
 invariant_of-result c =
-    let k = initial_kept c.initial_only.result c.initial_only.ensures in
-    record { counts = k.counts; starts = k.starts; trails = k.trails; leads = k.leads; marks = k.marks; active = k.active; begins = k.begins; exact = k.exact }
+    let e = c.initial_only.ensures in
+    record { whole = subst (λ (l : Loaded). Whole l []) (sym e) initial_whole; exact = sym (ap (λ (l : Loaded). l.row_count) e ∙ initial_exact) }

@@ -1,7 +1,9 @@
-use Rattle.table.proofs.Kept.{whole_kept}
+use Rattle.std.proofs.lemmas.List.{length-take-le}
+use Rattle.table.proofs.Kept.{cut_whole}
 use Rattle.table.proofs.held.whole.Goals as goal
 
 pub invariant_of-result : goal.invariant_of-result
 invariant_of-result c =
-    let k = whole_kept c.args.loaded.now c.args.rows.now c.requires in
-    record { counts = k.counts; starts = k.starts; trails = k.trails; leads = k.leads; marks = k.marks; active = k.active; begins = k.begins; exact = k.exact }
+    let l = c.args.loaded.now in
+    let rs = c.args.rows.now in
+    record { whole = cut_whole l rs c.requires; exact = length-take-le l.row_count rs c.requires.0.0 }
