@@ -37,21 +37,17 @@ fn whole<'a>(loaded: &'a Loaded, rows: &'a [Row]) -> Table<'a>
     }
 }
 
+#[tactic(auto, unfolding(loaded::specs::Zeros::zeros))]
 fn initial<'a>() -> Table<'a>
     ensures { (result.loaded ≡ initial_only) × (result.rows.now ≡ []) }
 {
     Table {
-        loaded: initial_only(),
+        loaded: Loaded {
+            condition_count: 1,
+            ..Loaded::zeros()
+        },
         rows: &[],
     }
-}
-
-fn initial_only() -> Loaded
-    ensures { result ≡ initial_only }
-{
-    let mut only = Loaded::zeros();
-    only.condition_count = 1;
-    only
 }
 
 impl<'a> Table<'a> {
