@@ -1,4 +1,4 @@
 pub mod Active
+pub mod Each
 pub mod Kept
 pub mod Marks
-pub mod Each

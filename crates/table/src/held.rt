@@ -7,7 +7,8 @@ ghost use Rattle.table.specs.Readings.{initial_only, numbered, start_row, next_r
 use crate::check;
 use loaded::{Loaded, Row};
 
-// Rows past the count are cut off.
+// Rows past the count are cut off. A row is named as in loaded memory, whose form is fixed: by a u16 that counts from 1, and
+// 0 is no row.
 #[derive(Drop)]
 pub struct Table<'a> {
     loaded: Loaded,
@@ -110,7 +111,7 @@ impl<'a> Table<'a> {
     }
 }
 
-// What has this number, counted from 1; 0 is the number of nothing, as loaded memory has it.
+// What has this number, counted from 1; nothing has the number 0.
 fn numbered<T>(all: &[T], number: usize) -> Option<&T>
     ensures { option_copied result ≡ numbered all.now number }
 {
