@@ -1,34 +1,18 @@
 // Escapes, and the byte sets in brackets.
 #![tactic(auto)]
 
-ghost use Rattle.std.specs.Prelude.{◌≡◌, ℕ, ◌+◌, ◌<◌, ◌≤◌, length};
+ghost use Rattle.std.specs.Prelude.{◌≡◌, ℕ, ◌+◌, ◌<◌, ◌≤◌, false, length};
 ghost use Rattle.bits.specs.Set.{has};
 ghost use Rattle.classes.specs.Posix.{members as class_members};
-ghost use Rattle.grammar.specs.declared.Refusal.TheVariants.{Misfit};
 ghost use Rattle.grammar.specs.Bytes.{within};
 ghost use Rattle.grammar.specs.Brackets.{control as control_of, escapable as is_escapable, escape_at, element_at, reserved as reserved_at, range_ahead, range_end, from_element, class_at, dash as dash_at, member_at, members_at, bracket_at};
-ghost use Rattle.brackets.specs.Sets.{outcome, Moves, Closes};
+ghost use Rattle.grammar.specs.Outcome.{Moves};
+ghost use Rattle.brackets.specs.Sets.{chosen, Closes};
 
 use bits::{Bits, ByteSet};
 use classes::Class;
-use grammar::{Element, Fault, Refusal};
+use grammar::{Fault, Read, Refusal, misfit, refused};
 use tokens::{Token, literal, name_at, stands};
-
-// Bytes that are meant, and the place behind what says so.
-#[derive(Clone, Copy)]
-pub struct Chosen {
-    pub bytes: ByteSet,
-    pub next: usize,
-}
-
-fn misfit(place: usize) -> Fault
-    ensures { result ≡ record { refusal = Misfit; place = place } }
-{
-    Fault {
-        refusal: Refusal::Misfit,
-        place,
-    }
-}
 
 // What an escaped byte stands for.
 fn control(b: u8) -> u8
@@ -54,32 +38,30 @@ fn escapable(b: u8) -> bool
 }
 
 // The byte at n, which stands behind a `\`.
-pub fn escape(s: &[u8], n: usize) -> Result<Element, Fault>
+pub fn escape(s: &[u8], n: usize) -> Result<Read<u8>, Fault>
     ensures { result ≡ escape_at s.now n }
 {
-    if n >= s.len() || !escapable(s[n]) {
-        return Err(misfit(n));
+    match s.get(n) {
+        Some(b) if escapable(*b) => Ok(Read {
+            value: control(*b),
+            next: n + 1,
+        }),
+        _ => Err(misfit(n)),
     }
-    Ok(Element {
-        byte: control(s[n]),
-        next: n + 1,
-    })
 }
 
 // A byte or an escape at n.
-pub fn element(s: &[u8], n: usize) -> Result<Element, Fault>
+pub fn element(s: &[u8], n: usize) -> Result<Read<u8>, Fault>
     ensures { result ≡ element_at s.now n }
 {
-    if stands(s, n, b'\\') {
-        return escape(s, n + 1);
+    match s.get(n) {
+        Some(b'\\') => escape(s, n + 1),
+        Some(b) => Ok(Read {
+            value: *b,
+            next: n + 1,
+        }),
+        None => Err(misfit(n)),
     }
-    if n >= s.len() {
-        return Err(misfit(n));
-    }
-    Ok(Element {
-        byte: s[n],
-        next: n + 1,
-    })
 }
 
 // Whether `[.`, `[=` or `[:` stands at n.
@@ -98,7 +80,7 @@ fn range_ahead(s: &[u8], n: usize) -> bool
 }
 
 // The last byte of a range.
-fn range_end(s: &[u8], n: usize) -> Result<Element, Fault>
+fn range_end(s: &[u8], n: usize) -> Result<Read<u8>, Fault>
     ensures { result ≡ range_end s.now n }
 {
     if reserved(s, n) {
@@ -107,80 +89,79 @@ fn range_end(s: &[u8], n: usize) -> Result<Element, Fault>
     element(s, n)
 }
 
-// The bytes from `low` to `high`.
-fn range(low: u8, high: u8) -> ByteSet
-    ensures { (b : ℕ) → has result.words b ≡ within low high b }
-{
-    let mut set = Bits::empty();
-    for b in low as usize..high as usize + 1 {
-        set.insert(b);
-    }
-    set
-}
-
-// The bytes of a class.
-fn of_class(class: Class) -> ByteSet
-    ensures { (b : ℕ) → has result.words b ≡ class_members class b }
+// The bytes that pass a test.
+fn bytes_where<F: Fn(u8) -> bool>(test: F) -> ByteSet
+    requires { F.IsAlwaysCallable test }
+    ensures tested { (b : ℕ) → b < 256 → F.post test b (has result.words b) }
+    ensures within { (b : ℕ) → 256 ≤ b → has result.words b ≡ false }
 {
     let mut set = Bits::empty();
     for b in 0..256 {
-        if classes::holds(class, b as u8) {
+        if test(b as u8) {
             set.insert(b);
         }
     }
     set
 }
 
+// The bytes from `low` to `high`.
+fn range(low: u8, high: u8) -> ByteSet
+    ensures { (b : ℕ) → has result.words b ≡ within low high b }
+{
+    bytes_where(|b| low <= b && b <= high)
+}
+
+// The bytes of a class.
+fn of_class(class: Class) -> ByteSet
+    ensures { (b : ℕ) → has result.words b ≡ class_members class b }
+{
+    bytes_where(|b| classes::holds(class, b))
+}
+
 // The element e, read at n, alone or as the begin of a range.
-fn from_element(s: &[u8], n: usize, e: Element) -> Result<Chosen, Fault>
-    ensures { outcome result ≡ from_element s.now n e }
+fn from_element(s: &[u8], n: usize, e: Read<u8>) -> Result<Read<ByteSet>, Fault>
+    ensures { chosen result ≡ from_element s.now n e }
 {
     if !range_ahead(s, e.next) {
-        return Ok(Chosen {
-            bytes: range(e.byte, e.byte),
+        return Ok(Read {
+            value: Bits::only(e.value as usize),
             next: e.next,
         });
     }
     let high = range_end(s, e.next + 1)?;
-    if high.byte < e.byte {
-        return Err(Fault {
-            refusal: Refusal::OutOfBounds,
-            place: n,
-        });
+    if high.value < e.value {
+        return Err(refused(Refusal::OutOfBounds, n));
     }
-    Ok(Chosen {
-        bytes: range(e.byte, high.byte),
+    Ok(Read {
+        value: range(e.value, high.value),
         next: high.next,
     })
 }
 
 // A class whose name begins at n.
-fn class_at(s: &[u8], n: usize) -> Result<Chosen, Fault>
-    ensures { outcome result ≡ class_at s.now n }
+fn class_at(s: &[u8], n: usize) -> Result<Read<ByteSet>, Fault>
+    ensures { chosen result ≡ class_at s.now n }
 {
-    match name_at(s, n) {
-        Token::Name(name) => match classes::class_named(name) {
-            Some(class) => Ok(Chosen {
-                bytes: of_class(class),
-                next: literal(s, n + name.len(), b":]")?,
-            }),
-            None => Err(Fault {
-                refusal: Refusal::UnknownName,
-                place: n,
-            }),
-        },
-        Token::Number(_) | Token::Nothing => Err(misfit(n)),
-    }
+    let Some(Token::Name(name)) = name_at(s, n) else {
+        return Err(misfit(n));
+    };
+    let Some(class) = classes::class_named(name) else {
+        return Err(refused(Refusal::UnknownName, n));
+    };
+    Ok(Read {
+        value: of_class(class),
+        next: literal(s, n + name.len(), b":]")?,
+    })
 }
 
 // A plain `-` at n: first in its bracket, or else last.
-fn dash(s: &[u8], first: bool, n: usize) -> Result<Chosen, Fault>
+fn dash(s: &[u8], first: bool, n: usize) -> Result<Read<ByteSet>, Fault>
     requires { n < length s.now }
-    ensures { outcome result ≡ dash_at s.now first n }
+    ensures { chosen result ≡ dash_at s.now first n }
 {
     if first || stands(s, n + 1, b']') {
-        return Ok(Chosen {
-            bytes: range(b'-', b'-'),
+        return Ok(Read {
+            value: Bits::only(b'-' as usize),
             next: n + 1,
         });
     }
@@ -188,9 +169,9 @@ fn dash(s: &[u8], first: bool, n: usize) -> Result<Chosen, Fault>
 }
 
 // A member at n.
-fn member(s: &[u8], first: bool, n: usize) -> Result<Chosen, Fault>
+fn member(s: &[u8], first: bool, n: usize) -> Result<Read<ByteSet>, Fault>
     requires { n ≤ length s.now }
-    ensures is { outcome result ≡ member_at s.now first n }
+    ensures is { chosen result ≡ member_at s.now first n }
     ensures moves { Moves result n (length s.now) }
 {
     if stands(s, n, b'-') {
@@ -207,23 +188,23 @@ fn member(s: &[u8], first: bool, n: usize) -> Result<Chosen, Fault>
 }
 
 // Members from n on, up to the `]`.
-fn members(s: &[u8], n: usize) -> Result<Chosen, Fault>
+fn members(s: &[u8], n: usize) -> Result<Read<ByteSet>, Fault>
     requires { n ≤ length s.now }
-    ensures is { outcome result ≡ members_at s.now n }
+    ensures is { chosen result ≡ members_at s.now n }
     ensures closes { Closes result n (length s.now) }
 {
     let mut all = member(s, true, n)?;
     while !stands(s, all.next, b']') {
         let more = member(s, false, all.next)?;
-        all.bytes.add_all(&more.bytes);
+        all.value.add_all(&more.value);
         all.next = more.next;
     }
     Ok(all)
 }
 
 // The bracket whose `[` stands before n.
-pub fn bracket(s: &[u8], n: usize) -> Result<Chosen, Fault>
-    ensures is { outcome result ≡ bracket_at s.now n }
+pub fn bracket(s: &[u8], n: usize) -> Result<Read<ByteSet>, Fault>
+    ensures is { chosen result ≡ bracket_at s.now n }
     ensures moves { Moves result n (length s.now) }
 {
     if n > s.len() {
@@ -231,14 +212,14 @@ pub fn bracket(s: &[u8], n: usize) -> Result<Chosen, Fault>
     }
     if stands(s, n, b'^') {
         let inner = members(s, n + 1)?;
-        return Ok(Chosen {
-            bytes: inner.bytes.complement(),
+        return Ok(Read {
+            value: inner.value.complement(),
             next: inner.next + 1,
         });
     }
     let inner = members(s, n)?;
-    Ok(Chosen {
-        bytes: inner.bytes,
+    Ok(Read {
+        value: inner.value,
         next: inner.next + 1,
     })
 }

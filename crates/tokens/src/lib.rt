@@ -1,15 +1,15 @@
 // The smallest items of a rule file: bytes of a kind, names, numbers, fixed words, and lines without their trailing blanks.
 #![tactic(auto)]
 
-ghost use Rattle.std.specs.Prelude.{◌≡◌, ℕ, ◌+◌, ◌-◌, ◌^◌, ◌<◌, ◌≤◌, min, List, length};
-ghost use Rattle.grammar.specs.Bytes.{stands as stands_at, passes as passes_at, span as span_at, part, name_length, digits as digits_at, number as number_at, literal as literal_at};
+ghost use Rattle.std.specs.Prelude.{◌≡◌, ℕ, ◌+◌, ◌-◌, ◌^◌, ◌<◌, ◌≤◌, min, List, length, take, take_while, drop, zip, ◌==◌};
+ghost use Rattle.grammar.specs.Bytes.{stands as stands_at, passes as passes_at, span as span_at, part, digits as digits_at, number as number_at, literal as literal_at};
 ghost use Rattle.grammar.specs.Lines.{line_end, next_line, trimmed as trimmed_at};
 ghost use Rattle.tokens.specs.Kinds.{holds};
 ghost use Rattle.tokens.specs.Parts.{NameAt, NumberAt, value_of};
 
-use grammar::{Fault, Refusal};
+use grammar::{Fault, misfit};
 
-#[derive(Clone, Copy)]
+#[derive(Clone, Copy, PartialEq, Eq)]
 pub enum Kind {
     Blank,
     Digit,
@@ -23,10 +23,9 @@ pub enum Kind {
 pub enum Token<'a> {
     Name(&'a [u8]),
     Number(&'a [u8]),
-    Nothing,
 }
 
-// Where a line ends without its trailing blanks, and where the next one starts.
+// Where a line ends without its trailing blanks, and where the next one starts. No Read: nothing is read at `end`.
 #[derive(Clone, Copy)]
 pub struct LineEnd {
     pub end: usize,
@@ -49,60 +48,55 @@ fn is(kind: Kind, b: u8) -> bool
 pub fn stands(s: &[u8], n: usize, b: u8) -> bool
     ensures { result ≡ stands_at s.now n b }
 {
-    n < s.len() && s[n] == b
+    s.get(n).is_some_and(|there| *there == b)
 }
 
 // Whether a byte of the kind stands at n.
 pub fn passes(s: &[u8], n: usize, kind: Kind) -> bool
     ensures { result ≡ passes_at (holds kind) s.now n }
 {
-    n < s.len() && is(kind, s[n])
+    s.get(n).is_some_and(|b| is(kind, *b))
 }
 
 // How many bytes of the kind stand in a row from n on, up to `most`.
+#[tactic(auto, using(crate::proofs::Items::span_list))]
 pub fn span(s: &[u8], n: usize, most: usize, kind: Kind) -> usize
     ensures { result ≡ span_at (holds kind) most s.now n }
 {
-    let mut end = n;
-    for k in 0..most {
-        if !passes(s, end, kind) {
-            return k;
-        }
-        end += 1;
-    }
-    most
+    leading(s, n, most, kind)
 }
 
-// How long the name at n is; 0 where there is none.
-fn name_length(s: &[u8], n: usize) -> usize
-    ensures { result ≡ name_length s.now n }
+// The same by the list of those bytes.
+fn leading(s: &[u8], n: usize, most: usize, kind: Kind) -> usize
+    ensures { result ≡ length (take_while (holds kind) (take most (drop n s.now))) }
 {
-    if !passes(s, n, Kind::NameStart) {
-        return 0;
-    }
-    1 + span(s, n + 1, 23, Kind::NameByte)
+    s.iter()
+        .skip(n)
+        .take(most)
+        .take_while(|b| is(kind, **b))
+        .count()
 }
 
 // The name at n: its longest part that fits, at most 24 bytes.
-pub fn name_at<'a>(s: &'a [u8], n: usize) -> Token<'a>
+pub fn name_at<'a>(s: &'a [u8], n: usize) -> Option<Token<'a>>
     ensures { NameAt s.now n result }
 {
-    let long = name_length(s, n);
-    if long == 0 {
-        return Token::Nothing;
+    if !passes(s, n, Kind::NameStart) {
+        return None;
     }
-    Token::Name(&s[n..n + long])
+    let long = 1 + span(s, n + 1, 23, Kind::NameByte);
+    Some(Token::Name(&s[n..n + long]))
 }
 
 // The number at n: its digits, at most `most` of them and never more than four.
-pub fn number_at<'a>(s: &'a [u8], n: usize, most: usize) -> Token<'a>
+pub fn number_at<'a>(s: &'a [u8], n: usize, most: usize) -> Option<Token<'a>>
     ensures { NumberAt (min most 4) s.now n result }
 {
     let long = span(s, n, most.min(4), Kind::Digit);
     if long == 0 {
-        return Token::Nothing;
+        return None;
     }
-    Token::Number(&s[n..n + long])
+    Some(Token::Number(&s[n..n + long]))
 }
 
 // The value of decimal digits, of the first four at most; a byte below `0` counts as 0.
@@ -111,27 +105,31 @@ pub fn value(digits: &[u8]) -> usize
     ensures number { (s : List ℕ) (n k : ℕ) → k ≤ 4 → digits.now ≡ part s n (digits_at k s n) → result ≡ number_at k s n }
 {
     let mut value = 0;
-    for k in 0..digits.len().min(4) {
-        value = value * 10 + digits[k].saturating_sub(b'0') as usize;
+    for digit in &digits[0..digits.len().min(4)] {
+        value = value * 10 + digit.saturating_sub(b'0') as usize;
     }
     value
+}
+
+// How many bytes of the word, from its first on, stand at n.
+fn common(s: &[u8], n: usize, word: &[u8]) -> usize
+    ensures { result ≡ length (take_while (λ pair. pair.1 == pair.0) (zip word.now (drop n s.now))) }
+{
+    word.iter()
+        .zip(s.iter().skip(n))
+        .take_while(|(b, there)| there == b)
+        .count()
 }
 
 // The place behind these bytes, where they stand at n.
 pub fn literal(s: &[u8], n: usize, word: &[u8]) -> Result<usize, Fault>
     ensures { result ≡ literal_at word.now s.now n }
 {
-    let mut at = n;
-    for b in word {
-        if !stands(s, at, *b) {
-            return Err(Fault {
-                refusal: Refusal::Misfit,
-                place: at,
-            });
-        }
-        at += 1;
+    let long = common(s, n, word);
+    if long < word.len() {
+        return Err(misfit(n + long));
     }
-    Ok(at)
+    Ok(n + long)
 }
 
 // Where the bytes from `at` up to `end` end without their trailing blanks.
@@ -139,12 +137,10 @@ fn trimmed(file: &[u8], at: usize, end: usize) -> usize
     requires { (at ≤ end) × (at < end → end ≤ length file.now) }
     ensures { result ≡ trimmed_at file.now at (end - at) }
 {
-    let mut end = end;
-    while end > at {
-        if !is(Kind::Blank, file[end - 1]) {
-            return end;
+    for last in (at..end).rev() {
+        if !is(Kind::Blank, file[last]) {
+            return last + 1;
         }
-        end -= 1;
     }
     at
 }

@@ -4,12 +4,11 @@ use Rattle.tokens.proofs.trimmed.Goals as goal
 
 pub returns-then-not-is : goal.returns-then-not-is
 returns-then-not-is c =
-    trim_stops c.args.file.now c.args.at c.loop-end.end _ c.loop-end.invariant.2 (omega arith) c.if-not-is.ensures
+    omega (arith, trim_stops c.args.file.now c.args.at c.loop-last.last _ c.loop-last.invariant (omega arith) c.if-not-is.ensures)
 
-pub loop-end-preserved : goal.loop-end-preserved
-loop-end-preserved c =
-    (omega arith, omega arith, trim_goes c.args.file.now c.args.at c.loop-end.end _ c.loop-end.invariant.2 (omega arith) c.if-not-is.ensures)
+pub loop-last-preserved : goal.loop-last-preserved
+loop-last-preserved c =
+    trim_goes c.args.file.now c.args.at c.loop-last.last _ c.loop-last.invariant (omega arith) c.if-not-is.ensures
 
 pub returns : goal.returns
-returns c =
-    trim_ends c.args.file.now c.args.at c.loop-end.end _ c.loop-end.invariant.2 (omega arith)
+returns c = trim_ends c.args.file.now c.args.at c.loop-last.last _ c.loop-last.invariant (omega arith)
