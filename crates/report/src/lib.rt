@@ -2,10 +2,9 @@
 #![tactic(auto)]
 
 ghost use Rattle.std.specs.Prelude.{◌≡◌, ◌≤◌, map, length, IfOk, string_bytes};
-ghost use Rattle.report.specs.Lines.{clipped, line_number, line_start, line_end, column_of};
-ghost use Rattle.report.specs.Words.{shown_as, caret_in, number_of, words_of};
+ghost use Rattle.report.specs.Lines.{clipped, before_newline, line_number, line_start, line_end, column_of};
+ghost use Rattle.report.specs.Words.{shown_as, caret_in};
 
-use grammar::Refusal;
 use std::alloc::{AllocError, Global};
 
 // A place of a file: its line and its column there, both counted from 1, and where that line starts and ends.
@@ -17,20 +16,23 @@ pub struct Location {
     pub end: usize,
 }
 
-// The first newline from `from` on, or the file's end.
-fn end_of_line(file: &[u8], from: usize) -> usize
-    requires { from ≤ length file.now }
-    ensures end { result ≡ line_end file.now from }
-    ensures within { (from ≤ result) × (result ≤ length file.now) }
+// How many bytes stand before the first newline.
+fn before_newline(bytes: &[u8]) -> usize
+    ensures number { result ≡ before_newline bytes.now }
+    ensures within { result ≤ length bytes.now }
 {
-    let mut end = from;
-    while end < file.len() {
-        if file[end] == b'\n' {
-            return end;
-        }
-        end += 1;
+    bytes.iter().take_while(|b| **b != b'\n').count()
+}
+
+// Where the last line starts.
+fn last_start(bytes: &[u8]) -> usize
+    ensures start { result ≡ line_start bytes.now (length bytes.now) }
+    ensures within { result ≤ length bytes.now }
+{
+    match bytes.iter().rposition(|b| *b == b'\n') {
+        Some(n) => n + 1,
+        None => 0,
     }
-    end
 }
 
 // Where a place stands; one behind the file's end counts as the end.
@@ -42,19 +44,13 @@ pub fn locate(file: &[u8], place: usize) -> Location
     ensures column { result.column ≡ column_of file.now (clipped file.now place) }
 {
     let at = place.min(file.len());
-    let mut line = 1;
-    let mut start = 0;
-    for i in 0..at {
-        if file[i] == b'\n' {
-            line += 1;
-            start = i + 1;
-        }
-    }
+    let (before, behind) = file.split_at(at);
+    let start = last_start(before);
     Location {
-        line,
+        line: 1 + before.iter().filter(|b| **b == b'\n').count(),
         column: at - start + 1,
         start,
-        end: end_of_line(file, at),
+        end: at + before_newline(behind),
     }
 }
 
@@ -62,7 +58,7 @@ pub fn locate(file: &[u8], place: usize) -> Location
 pub fn shown(b: u8) -> u8
     ensures { result ≡ shown_as b }
 {
-    if b >= 32 && b <= 126 { b } else { b'.' }
+    if matches!(b, b' '..=b'~') { b } else { b'.' }
 }
 
 // A line of a file as it is shown.
@@ -86,26 +82,4 @@ pub fn caret(heap: Global, column: usize) -> Result<String, AllocError>
     }
     text.push('^')?;
     Ok(text)
-}
-
-// The number that a refusal is reported by.
-pub fn number_of(refusal: Refusal) -> u8
-    ensures { result ≡ number_of refusal }
-{
-    refusal as u8
-}
-
-// A refusal in words.
-pub fn describe(refusal: Refusal) -> &'static str
-    ensures { result.now ≡ words_of refusal }
-{
-    match refusal {
-        Refusal::Memory => "the work memory is too small",
-        Refusal::FileTooLong => "the file is longer than 8,192 bytes",
-        Refusal::Misfit => "this does not fit the grammar here",
-        Refusal::UnknownName => "no condition or class has this name",
-        Refusal::DeclaredAgain => "this condition is declared already",
-        Refusal::OutOfBounds => "this number or range is out of bounds",
-        Refusal::LimitPassed => "this passes a limit of the rule file",
-    }
 }
