@@ -1,19 +1,29 @@
 // How a fault of a rule file is shown: its line and column, the line's bytes, and the reason in words.
 #![tactic(auto)]
 
-ghost use Rattle.std.specs.Prelude.{◌≡◌, ◌≤◌, map, length, IfOk, string_bytes};
+ghost use Rattle.std.specs.Prelude.{◌≡◌, ◌≤◌, ◌∷◌, ◌++◌, Some, map, length};
+ghost use Rattle.std.specs.Fmt.{decimal};
 ghost use Rattle.report.specs.Lines.{clipped, before_newline, line_number, line_start, line_end, column_of};
 ghost use Rattle.report.specs.Words.{shown_as, caret_in};
 
-use std::alloc::{AllocError, Global};
+use std::fmt;
 
 // A place of a file: its line and its column there, both counted from 1, and where that line starts and ends.
-#[derive(Clone, Copy)]
+#[derive(Clone, Copy, PartialEq, Eq)]
 pub struct Location {
     pub line: usize,
     pub column: usize,
     pub start: usize,
     pub end: usize,
+}
+
+// The line and the column, as `LINE:COLUMN`.
+impl fmt::Display for Location {
+    ghost output = { λ place. Some (decimal place.line ++ (58 ∷ decimal place.column)) };
+
+    fn fmt<W: fmt::Write>(&self, f: &mut fmt::Formatter<W>) -> fmt::Result {
+        write!(f, "{}:{}", self.line, self.column)
+    }
 }
 
 // How many bytes stand before the first newline.
@@ -62,24 +72,31 @@ pub fn shown(b: u8) -> u8
 }
 
 // A line of a file as it is shown.
-pub fn shown_line(heap: Global, line: &[u8]) -> Result<String, AllocError>
-    ensures { IfOk result (λ text. string_bytes text ≡ map shown_as line.now) }
-{
-    let mut text = String::new(heap);
-    for b in line {
-        text.push(char::from(shown(*b)))?;
+#[derive(Clone, Copy)]
+pub struct ShownLine<'a>(pub &'a [u8]);
+
+impl fmt::Display for ShownLine<'_> {
+    ghost output = { λ line. Some (map shown_as line.0.now) };
+
+    fn fmt<W: fmt::Write>(&self, f: &mut fmt::Formatter<W>) -> fmt::Result {
+        for b in self.0 {
+            f.write_char(char::from(shown(*b)))?;
+        }
+        Ok(())
     }
-    Ok(text)
 }
 
 // A caret in this column, counted from 1, with spaces before it.
-pub fn caret(heap: Global, column: usize) -> Result<String, AllocError>
-    ensures { IfOk result (λ text. string_bytes text ≡ caret_in column) }
-{
-    let mut text = String::new(heap);
-    for _ in 1..column {
-        text.push(' ')?;
+#[derive(Clone, Copy, PartialEq, Eq)]
+pub struct Caret(pub usize);
+
+impl fmt::Display for Caret {
+    ghost output = { λ column. Some (caret_in column.0) };
+
+    fn fmt<W: fmt::Write>(&self, f: &mut fmt::Formatter<W>) -> fmt::Result {
+        for _ in 1..self.0 {
+            f.write_char(' ')?;
+        }
+        f.write_char('^')
     }
-    text.push('^')?;
-    Ok(text)
 }

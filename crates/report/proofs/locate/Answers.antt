@@ -1,5 +1,4 @@
-use Rattle.std.proofs.Common.{◌≡◌, arith, rules}
-use Rattle.report.specs.Lines.{line_start, clipped}
+use Rattle.std.proofs.Common.{arith, rules}
 use Rattle.report.proofs.Lines.{line_start-take}
 use Rattle.report.proofs.locate.Goals as goal
 
