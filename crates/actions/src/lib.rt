@@ -1,11 +1,13 @@
 // Actions: `;` alone, or one or more steps.
 #![tactic(auto)]
 
-ghost use Rattle.std.specs.Prelude.{◌≡◌, ℕ, ◌≤◌, IfOk};
-ghost use Rattle.grammar.specs.Outcome.{then, read};
+ghost use Rattle.std.specs.Prelude.{◌≡◌, ℕ, ◌<◌, ◌≤◌, length, IfOk};
+ghost use Rattle.grammar.specs.declared.Stage.TheVariants.{Writing, Begun, Ended};
+ghost use Rattle.grammar.specs.Outcome.{Moves, then, read};
 ghost use Rattle.grammar.specs.Bytes.{literal as literal_at};
-ghost use Rattle.grammar.specs.Actions.{action_at, nothing_behind, numeral as numeral_at, mark_at, begin_at, more_or_less_at};
+ghost use Rattle.grammar.specs.Actions.{action_at, nothing_behind, numeral as numeral_at, mark_at, begin_at, more_or_less_at, stage_after};
 ghost use Rattle.conditions.specs.Known.{known};
+ghost use Rattle.actions.specs.Given.{Past};
 ghost use Rattle.actions.specs.Steps.{does, made_by};
 
 mod reading;
@@ -19,7 +21,9 @@ use tokens::{Token, literal, number_at, stands};
 
 // The step that this word at n stands for.
 fn worded(s: &[u8], n: usize, word: &[u8], step: Step) -> Result<Read<Step>, Fault>
-    ensures { result ≡ then (literal_at word.now s.now n) (read step) }
+    requires { 0 < length word.now }
+    ensures is { result ≡ then (literal_at word.now s.now n) (read step) }
+    ensures past { IfOk result (Past s.now n (stage_after step)) }
 {
     let next = literal(s, n, word)?;
     Ok(Read { value: step, next })
@@ -33,8 +37,10 @@ fn numeral(
     high: usize,
     behind: &[u8],
 ) -> Result<Read<usize>, Fault>
+    requires { 0 < length behind.now }
     ensures is { (make : ℕ → Step) → made_by make result ≡ numeral_at s.now low high make behind.now n }
     ensures most { IfOk result (λ x. x.value ≤ high) }
+    ensures moves { Moves result n (length s.now) }
 {
     let Some(Token::Number(digits)) = number_at(s, n, 4) else {
         return Err(misfit(n));
@@ -49,7 +55,8 @@ fn numeral(
 
 // `MARK n;`
 fn mark(s: &[u8], n: usize) -> Result<Read<Step>, Fault>
-    ensures { result ≡ mark_at s.now n }
+    ensures is { result ≡ mark_at s.now n }
+    ensures past { IfOk result (Past s.now n Writing) }
 {
     let from = literal(s, n, b"MARK ")?;
     let number = numeral(s, from, 0, 255, b";")?;
@@ -61,7 +68,8 @@ fn mark(s: &[u8], n: usize) -> Result<Read<Step>, Fault>
 
 // `BEGIN name;`
 fn begin(s: &[u8], n: usize, conditions: &Conditions) -> Result<Read<Step>, Fault>
-    ensures { result ≡ begin_at s.now (known conditions.now) n }
+    ensures is { result ≡ begin_at s.now (known conditions.now) n }
+    ensures past { IfOk result (Past s.now n Begun) }
 {
     let from = literal(s, n, b"BEGIN ")?;
     let named = conditions.named(s, from)?;
@@ -70,7 +78,8 @@ fn begin(s: &[u8], n: usize, conditions: &Conditions) -> Result<Read<Step>, Faul
 
 // `yymore();` or `yyless(n);`
 fn more_or_less(s: &[u8], n: usize) -> Result<Read<Step>, Fault>
-    ensures { result ≡ more_or_less_at s.now n }
+    ensures is { result ≡ more_or_less_at s.now n }
+    ensures past { IfOk result (Past s.now n Ended) }
 {
     let from = literal(s, n, b"yy")?;
     if stands(s, from, b'm') {

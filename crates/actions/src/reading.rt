@@ -1,5 +1,5 @@
 // Steps as they are read, one after the other.
-ghost use Rattle.std.specs.Prelude.{◌≡◌, ◌<◌, ◌≤◌, length, IfOk};
+ghost use Rattle.std.specs.Prelude.{◌≡◌, ◌<◌, ◌≤◌, false, length, IfOk};
 ghost use Rattle.grammar.specs.Actions.{stage_after, past_blanks};
 ghost use Rattle.actions.specs.Given.{most};
 
@@ -41,7 +41,8 @@ fn past_blanks(stage: Stage, s: &[u8], n: usize) -> usize
 }
 
 impl Reading {
-    ghost use Rattle.grammar.specs.Actions.{no_steps, step_at, step_more};
+    ghost use Rattle.grammar.specs.Outcome.{Moves};
+    ghost use Rattle.grammar.specs.Actions.{ended, no_steps, step_at, step_more};
     ghost use Rattle.conditions.specs.Known.{known};
     ghost use Rattle.actions.specs.Steps.{view, reads};
 
@@ -59,7 +60,10 @@ impl Reading {
 
     // The step at the place that is reached.
     fn step(self, s: &[u8], conditions: &Conditions) -> Result<Read<Step>, Fault>
-        ensures { result ≡ step_at s.now (known conditions.now) (view self) }
+        requires { ended self.stage ≡ false }
+        ensures is { result ≡ step_at s.now (known conditions.now) (view self) }
+        ensures moves { Moves result self.next (length s.now) }
+        ensures few { IfOk result (λ t. self.steps.count < most (stage_after t.value)) }
     {
         let n = self.next;
         let writing = self.stage == Stage::Writing;
