@@ -110,7 +110,7 @@ pub fn action(s: &[u8], n: usize, conditions: &Conditions) -> Result<Steps, Faul
     if stands(s, n, b';') {
         return nothing_behind(s, n + 1);
     }
-    let mut read = Reading::from(n).more(s, conditions)?;
+    let mut read = Reading::start(n).more(s, conditions)?;
     while read.next < s.len() {
         read = read.more(s, conditions)?;
     }

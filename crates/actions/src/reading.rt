@@ -47,9 +47,8 @@ impl Reading {
     ghost use Rattle.actions.specs.Steps.{view, reads};
 
     // Before the first step.
-    pub(crate) fn from(n: usize) -> Reading
-        ensures is { view result ≡ no_steps n }
-        ensures next { result.next ≡ n }
+    pub(crate) fn start(n: usize) -> Reading
+        ensures { view result ≡ no_steps n }
     {
         Reading {
             steps: Steps::none(),

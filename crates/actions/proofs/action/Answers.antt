@@ -7,10 +7,10 @@ use Rattle.actions.proofs.action.Goals as goal
 pub returns-in_err-read : goal.returns-in_err-read
 returns-in_err-read c =
     let p = err_from_is_err_and c.from_residual.result c.from_residual.ensures.1 in
-    rw (p.1, p.2) (reads_refuses c.args.s.now (known c.args.conditions.now) c.args.n c.if-stands.ensures (view c.from.result) _ c.from.ensures.is c.in_err-read.ensures.is)
+    rw (p.1, p.2) (reads_refuses c.args.s.now (known c.args.conditions.now) c.args.n c.if-stands.ensures (view c.start.result) _ c.start.ensures c.in_err-read.ensures.is)
 
 pub loop-read-init : goal.loop-read-init
-loop-read-init c = reads_first c.args.s.now (known c.args.conditions.now) c.args.n (view c.from.result) c.from.ensures.is _ c.in_ok-read.ensures.is
+loop-read-init c = reads_first c.args.s.now (known c.args.conditions.now) c.args.n (view c.start.result) c.start.ensures _ c.in_ok-read.ensures.is
 
 pub returns-in_err-read-2 : goal.returns-in_err-read-2
 returns-in_err-read-2 c =
