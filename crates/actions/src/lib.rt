@@ -46,7 +46,7 @@ fn numeral(
         return Err(misfit(n));
     };
     let value = tokens::value(digits);
-    if value < low || value > high {
+    if !(low..=high).contains(&value) {
         return Err(refused(Refusal::OutOfBounds, n));
     }
     let next = literal(s, n + digits.len(), behind)?;
