@@ -111,6 +111,7 @@ pub fn action(s: &[u8], n: usize, conditions: &Conditions) -> Result<Steps, Faul
         return nothing_behind(s, n + 1);
     }
     let mut read = Reading::start(n).more(s, conditions)?;
+    // A `while`: each turn reads where the one before ended, and may refuse.
     while read.next < s.len() {
         read = read.more(s, conditions)?;
     }
