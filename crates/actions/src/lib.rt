@@ -30,13 +30,7 @@ fn worded(s: &[u8], n: usize, word: &[u8], step: Step) -> Result<Read<Step>, Fau
 }
 
 // The number at n, which has to be within its bounds, and what closes it.
-fn numeral(
-    s: &[u8],
-    n: usize,
-    low: usize,
-    high: usize,
-    behind: &[u8],
-) -> Result<Read<usize>, Fault>
+fn numeral(s: &[u8], n: usize, low: usize, high: usize, behind: &[u8]) -> Result<Read<usize>, Fault>
     requires { 0 < length behind.now }
     ensures is { (make : ℕ → Step) → made_by make result ≡ numeral_at s.now low high make behind.now n }
     ensures most { IfOk result (λ x. x.value ≤ high) }

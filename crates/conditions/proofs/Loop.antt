@@ -1,5 +1,5 @@
 -- A first step and then a `while`, as the grammar has them by `then` and `many`: `at` is the place of what was read so far, which every step moves on.
-use Rattle.std.proofs.Common.{◌≡◌, ℕ, ◌-◌, ◌<◌, Bool, true, false, Ok, Err, IsErrAnd, sym, refl, ap, ◌∙◌, arith}
+use Rattle.std.proofs.Common.{◌≡◌, ℕ, ◌-◌, ◌<◌, Bool, true, false, Ok, Err, IsErrAnd, sym, ap, ◌∙◌, arith}
 use Rattle.std.proofs.lemmas.Result.{err_from_is_err_and}
 use Rattle.grammar.specs.declared.Fault.{Fault}
 use Rattle.grammar.specs.Outcome.{Out, then, many}
