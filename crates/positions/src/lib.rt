@@ -19,7 +19,7 @@ pub struct Fragment {
 }
 
 // What `*`, `+` and `?` stand for.
-#[derive(Clone, Copy)]
+#[derive(Clone, Copy, PartialEq, Eq)]
 pub enum Repeat {
     Many,
     Some,
@@ -33,27 +33,13 @@ fn is_roomy(work: &[PositionSet]) -> bool
     work.len() >= 2 * POSITIONS
 }
 
-// The same numbers, in as many words as positions have.
-fn wide(bytes: ByteSet) -> PositionSet
-    ensures { (q : ℕ) → has result.words q ≡ has bytes.words q }
-{
-    let mut out: PositionSet = Bits::empty();
-    for b in 0..256 {
-        if bytes.has(b) {
-            out.insert(b);
-        }
-    }
-    out
-}
-
 // The position p, which takes these bytes and which nothing follows yet.
 pub fn leaf(work: &mut [PositionSet], p: usize, bytes: &ByteSet) -> Fragment
     ensures { Leaf work.old work.new p bytes.now.words result }
 {
-    let mut only: PositionSet = Bits::empty();
-    only.insert(p);
+    let only = Bits::only(p);
     if is_roomy(work) && p < POSITIONS {
-        work[p] = wide(*bytes);
+        work[p] = bytes.resized();
         work[POSITIONS + p] = Bits::empty();
     }
     Fragment {
@@ -77,15 +63,6 @@ pub fn link(work: &mut [PositionSet], ends: &PositionSet, starts: &PositionSet)
     }
 }
 
-// The members of either.
-fn joined(a: &PositionSet, b: &PositionSet) -> PositionSet
-    ensures { (q : ℕ) → has result.words q ≡ (has a.now.words q || has b.now.words q) }
-{
-    let mut all = *a;
-    all.add_all(b);
-    all
-}
-
 // x, and then y.
 pub fn sequence(work: &mut [PositionSet], x: &Fragment, y: &Fragment) -> Fragment
     ensures { Sequence work.old work.new x.now y.now result }
@@ -93,12 +70,12 @@ pub fn sequence(work: &mut [PositionSet], x: &Fragment, y: &Fragment) -> Fragmen
     link(work, &x.last, &y.first);
     // What can be empty lets its neighbour begin or end the whole.
     let first = if x.nullable {
-        joined(&x.first, &y.first)
+        x.first.either(&y.first)
     } else {
         x.first
     };
     let last = if y.nullable {
-        joined(&x.last, &y.last)
+        x.last.either(&y.last)
     } else {
         y.last
     };
@@ -115,8 +92,8 @@ pub fn choice(x: &Fragment, y: &Fragment) -> Fragment
 {
     Fragment {
         nullable: x.nullable || y.nullable,
-        first: joined(&x.first, &y.first),
-        last: joined(&x.last, &y.last),
+        first: x.first.either(&y.first),
+        last: x.last.either(&y.last),
     }
 }
 
@@ -124,20 +101,14 @@ pub fn choice(x: &Fragment, y: &Fragment) -> Fragment
 fn may_lack(mark: Repeat) -> bool
     ensures { result ≡ empties mark }
 {
-    match mark {
-        Repeat::Many | Repeat::Maybe => true,
-        Repeat::Some => false,
-    }
+    mark != Repeat::Some
 }
 
 // Whether what has the mark may come again straight after itself.
 fn goes_round(mark: Repeat) -> bool
     ensures { result ≡ goes_round mark }
 {
-    match mark {
-        Repeat::Many | Repeat::Some => true,
-        Repeat::Maybe => false,
-    }
+    mark != Repeat::Maybe
 }
 
 // x with a repeat mark.
