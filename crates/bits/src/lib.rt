@@ -37,17 +37,15 @@ impl<const W: usize> Bits<W> {
     pub fn has(&self, k: usize) -> bool
         ensures { result ≡ has self.now.words k }
     {
-        self.words
-            .get(k / 64)
-            .is_some_and(|w| (w >> (k % 64)) % 2 == 1)
+        k / 64 < W && (self.words[k / 64] >> (k % 64)) % 2 == 1
     }
 
     // Puts k in; a number past the end is left out.
     pub fn insert(&mut self, k: usize)
         ensures { (j : ℕ) → has self.new.words j ≡ (has self.old.words j || (j == k && nat_lt (k / 64) W)) }
     {
-        if let Some(w) = self.words.get_mut(k / 64) {
-            *w |= 1 << (k % 64);
+        if k / 64 < W {
+            self.words[k / 64] |= 1 << (k % 64);
         }
     }
 
@@ -55,9 +53,7 @@ impl<const W: usize> Bits<W> {
     pub fn add_all(&mut self, other: &Self)
         ensures { (j : ℕ) → has self.new.words j ≡ (has self.old.words j || has other.now.words j) }
     {
-        for (w, o) in self.words.iter_mut().zip(other.words.iter()) {
-            *w |= *o;
-        }
+        *self = self.either(other);
     }
 
     // The members below 64 * V.
@@ -65,8 +61,8 @@ impl<const W: usize> Bits<W> {
         ensures { (j : ℕ) → has result.words j ≡ (nat_lt (j / 64) V && has self.now.words j) }
     {
         let mut out = Bits::empty();
-        for (w, o) in out.words.iter_mut().zip(self.words.iter()) {
-            *w = *o;
+        for (i, w) in out.words.iter_mut().enumerate() {
+            *w = self.words.get(i).copied().unwrap_or(0);
         }
         out
     }
@@ -103,9 +99,11 @@ impl<const W: usize> Bits<W> {
     pub fn complement(&self) -> Self
         ensures { (j : ℕ) → has result.words j ≡ (nat_lt (j / 64) W && not (has self.now.words j)) }
     {
-        Bits {
-            words: self.words.map(|w| !w),
+        let mut out = Bits::empty();
+        for (i, w) in out.words.iter_mut().enumerate() {
+            *w = !self.words[i];
         }
+        out
     }
 
     // Whether both have the same words, and so the same members.
@@ -120,11 +118,11 @@ impl<const W: usize> Bits<W> {
         ensures members { (j : ℕ) → has result.words j ≡ (has self.now.words j || has other.now.words j) }
         ensures whole { Whole W result.words }
     {
-        let mut out = *self;
-        for (w, o) in out.words.iter_mut().zip(other.words.iter()) {
-            *w |= *o;
+        let mut all = Bits::empty();
+        for (i, w) in all.words.iter_mut().enumerate() {
+            *w = self.words[i] | other.words[i];
         }
-        out
+        all
     }
 
     // The members that both sets have.
@@ -132,28 +130,31 @@ impl<const W: usize> Bits<W> {
         ensures members { (j : ℕ) → has result.words j ≡ (has self.now.words j && has other.now.words j) }
         ensures whole { Whole W result.words }
     {
-        let mut out = *self;
-        for (w, o) in out.words.iter_mut().zip(other.words.iter()) {
-            *w &= *o;
+        let mut both = Bits::empty();
+        for (i, w) in both.words.iter_mut().enumerate() {
+            *w = self.words[i] & other.words[i];
         }
-        out
+        both
     }
 
     // Whether there is no member.
     pub fn is_empty(&self) -> bool
         ensures { (result ≡ true → (j : ℕ) → has self.now.words j ≡ false) × (result ≡ false → (j : ℕ) × (has self.now.words j ≡ true)) }
     {
-        self.words.iter().all(|w| *w == 0)
+        // No `all`: its contract doesn't say that each word fits in 64 bits, and a bit past them is no member.
+        for w in self.words.iter() {
+            if *w != 0 {
+                return false;
+            }
+        }
+        true
     }
 
     // Whether some number is in both.
     pub fn meets(&self, other: &Self) -> bool
         ensures { (result ≡ true → (j : ℕ) × (has self.now.words j ≡ true) × (has other.now.words j ≡ true)) × (result ≡ false → (j : ℕ) → (has self.now.words j && has other.now.words j) ≡ false) }
     {
-        self.words
-            .iter()
-            .zip(other.words.iter())
-            .any(|(w, o)| w & o != 0)
+        !self.common(other).is_empty()
     }
 
     // The first member from `from` on, a word at a time. A member from word 2 ^ 58 on is no usize.

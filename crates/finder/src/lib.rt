@@ -36,19 +36,17 @@ pub fn find<T: Same>(items: &[T], item: &T) -> Option<usize>
 }
 
 // Finds an item among those in use, or else adds it behind them if there is room. In use are the first `count`, or all if they are fewer.
-pub fn find_or_add<T: Same + Copy>(
-    items: &mut [T],
-    count: usize,
-    item: &T,
-) -> Result<Found, Full>
+pub fn find_or_add<T: Same + Copy>(items: &mut [T], count: usize, item: &T) -> Result<Found, Full>
     ensures { Placed T.meaning items.old items.new (min count (length items.old)) item.now result }
 {
     let used = count.min(items.len());
     if let Some(k) = find(&items[0..used], item) {
         return Ok(Found::Old(k));
     }
-    let place = items.get_mut(used).ok_or(Full)?;
-    *place = *item;
+    if used == items.len() {
+        return Err(Full);
+    }
+    items[used] = *item;
     Ok(Found::New(used))
 }
 

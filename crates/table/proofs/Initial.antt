@@ -8,7 +8,6 @@ unfoldable pub with_initial : Loaded → Loaded
 with_initial l = record {
   rules = l.rules;
   starts = l.starts;
-  trails = l.trails;
   rule_count = l.rule_count;
   condition_count = 1;
   row_count = l.row_count;

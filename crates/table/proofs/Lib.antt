@@ -2,4 +2,4 @@ pub mod Active
 pub mod Initial
 pub mod Kept
 pub mod Marks
-pub mod Past
+pub mod Each

@@ -1,6 +1,6 @@
-use Rattle.std.proofs.Common.{arith}
-use Rattle.table.proofs.Active.{active_below}
+use Rattle.std.proofs.Common.{rules}
+use Rattle.table.proofs.Active.{first_active}
 use Rattle.table.proofs.active_in.Goals as goal
 
 pub returns : goal.returns
-returns c = active_below c.args.conditions c.loop-k.k c.args.active.words (omega arith) (omega arith) c.loop-k.invariant
+returns c = first_active c.args.conditions c.args.active.words c.next.result c.is_none.result (search rules) c.next.ensures
