@@ -9,6 +9,7 @@ use Rattle.positions.specs.Memory.{Work, Choice}
 use Rattle.positions.specs.Laid.{Laid, Kept, made}
 use Rattle.positions.proofs.Lays.{kept_refl, kept_trans, kept_less, laid_kept, laid_then, kept_then, laid_either, laid_repeats, kept_repeats}
 use Rattle.grammar.specs.declared.Fault.{Fault}
+use Rattle.grammar.specs.declared.Interval.{Interval}
 use Rattle.grammar.specs.declared.Read.{Read}
 use Rattle.grammar.specs.declared.Refusal.TheVariants.{LimitPassed}
 use Rattle.grammar.specs.Outcome.{Out, refused, then, many}
@@ -137,12 +138,12 @@ past_lays o close base w w' all r l c e =
     }
 
 -- the copies of an interval, over all that has been read
-pub interval_steps : (s : List ℕ) (base : ℕ) (w w' : Work) (all : Code) (b : Bounds) (x : ℕ) (f : Fragment)
-    → Ok b ≡ bounds_at s (all.at + 1) → x ≡ extra b.interval → base ≤ all.used → all.used + x * (all.used - base) ≤ 512
-    → Copies b.interval base (all.used - base) w w' all.part f
+pub interval_steps : (s : List ℕ) (base : ℕ) (w w' : Work) (all : Code) (b : Read Interval) (x : ℕ) (f : Fragment)
+    → Ok b ≡ bounds_at s (all.at + 1) → x ≡ extra b.value → base ≤ all.used → all.used + x * (all.used - base) ≤ 512
+    → Copies b.value base (all.used - base) w w' all.part f
     → Steps (interval_over s) base w w' all (Ok (record { part = f; at = b.next; used = all.used + x * (all.used - base) }))
 interval_steps s base w w' all b x f e x-is low fits c t h =
-    let i = b.interval in
+    let i = b.value in
     let n-is : all.used - base ≡ size t = omega (arith, h.counts) in
     let c' : Copies i base (size t) w w' all.part f = subst (λ (n : ℕ). Copies i base n w w' all.part f) n-is c in
     let used-is : all.used + x * (all.used - base) ≡ all.used + extra i * size t =
@@ -152,7 +153,7 @@ interval_steps s base w w' all b x f e x-is low fits c t h =
     let test : leb (all.used + extra i * size t) 512 ≡ true = le-leb _ _ fits' in record {
       tree = repeated i t;
       is =
-          ap (λ (o : Out Bounds). then o (repeated_over (parsed_as all t))) (sym e)
+          ap (λ (o : Out (Read Interval)). then o (repeated_over (parsed_as all t))) (sym e)
           ∙ ap (λ (y : Bool). cond y (parsed (repeated i t) b.next (all.used + extra i * size t)) (refused LimitPassed all.at)) test
           ∙ ap (λ (n : ℕ). parsed (repeated i t) b.next n) (sym used-is);
       counts = used-is ∙ omega (arith, suc-mul (extra i) (size t), size_side i t (extra i) 0, h.counts);
@@ -161,15 +162,15 @@ interval_steps s base w w' all b x f e x-is low fits c t h =
     }
 
 -- an interval that passes the limit
-pub interval_full : (s : List ℕ) (base : ℕ) (w w' : Work) (all : Code) (b : Bounds) (x : ℕ) → Ok b ≡ bounds_at s (all.at + 1) → x ≡ extra b.interval
+pub interval_full : (s : List ℕ) (base : ℕ) (w w' : Work) (all : Code) (b : Read Interval) (x : ℕ) → Ok b ≡ bounds_at s (all.at + 1) → x ≡ extra b.value
     → 512 < all.used + x * (all.used - base) → Steps (interval_over s) base w w' all (refused LimitPassed all.at)
 interval_full s base w w' all b x e x-is past t h =
-    let i = b.interval in
+    let i = b.value in
     let n-is : all.used - base ≡ size t = omega (arith, h.counts) in
     let used-is : all.used + x * (all.used - base) ≡ all.used + extra i * size t =
     ap (λ (n : ℕ). all.used + n * (all.used - base)) x-is ∙ ap (λ (n : ℕ). all.used + extra i * n) n-is in
     let test : leb (all.used + extra i * size t) 512 ≡ false = lt-leb _ _ (subst (λ (n : ℕ). 512 < n) used-is past) in
-    ap (λ (o : Out Bounds). then o (repeated_over (parsed_as all t))) (sym e)
+    ap (λ (o : Out (Read Interval)). then o (repeated_over (parsed_as all t))) (sym e)
     ∙ ap (λ (y : Bool). cond y (parsed (repeated i t) b.next (all.used + extra i * size t)) (refused LimitPassed all.at)) test
 
 pub gives_by : {o o' : Out Parsed} (base : ℕ) (w w' : Work) (r : Result Code Fault) → o ≡ o' → Gives o' base w w' r → Gives o base w w' r

@@ -18,8 +18,8 @@ alternation-returns-in_err-all t c =
     let r = c.in_err-all.ensures in
     rw (p.1, p.2) record { gives = alternation_is i s c.args.at c.args.used ∙ ap (λ (o : Out Parsed). then o (many (bar_ahead s) (alternation_more i s) (length s))) r.gives; moves = tt }
 
-pub alternation-loop-all-init : goal.alternation-loop-all-init
-alternation-loop-all-init t c =
+pub alternation-loop-work-init : goal.alternation-loop-work-init
+alternation-loop-work-init t c =
     let s = c.args.s.now in
     let i = inside c.args.depth s in
     let r = c.in_ok-all.ensures in
@@ -31,27 +31,27 @@ alternation-returns-in_err-all-2 t c =
     let i = inside c.args.depth s in
     let p = err_from_is_err_and c.from_residual-in_err-all-2.result c.from_residual-in_err-all-2.ensures.1 in
     let r = c.in_err-all-2.ensures in
-    let v = c.loop-all.invariant in
-    let on = c.loop-all-test.ensures in
-    rw (p.1, p.2) record { gives = grown_fails s (bar_ahead s) (alternation_more i s) _ c.args.used _ c.loop-all.work c.loop-all.work c.loop-all.all _ v.2 (λ t. on) r.gives v.1; moves = tt }
+    let v = c.loop-work.invariant in
+    let on = c.loop-work-test.ensures in
+    rw (p.1, p.2) record { gives = grown_fails s (bar_ahead s) (alternation_more i s) _ c.args.used _ c.loop-work.work c.loop-work.work c.loop-work.all _ v.2 (λ t. on) r.gives v.1; moves = tt }
 
-pub alternation-loop-all-preserved : goal.alternation-loop-all-preserved
-alternation-loop-all-preserved t c =
+pub alternation-loop-work-preserved : goal.alternation-loop-work-preserved
+alternation-loop-work-preserved t c =
     let s = c.args.s.now in
     let i = inside c.args.depth s in
     let r = c.in_ok-all-2.ensures in
-    let v = c.loop-all.invariant in
-    let on = c.loop-all-test.ensures in
-    (omega arith, r.moves.1, grown_turn s (bar_ahead s) (alternation_more i s) _ c.args.used _ c.loop-all.work _ c.loop-all.all _ v.2 (λ t. on) r.gives r.moves.0 v.1)
+    let v = c.loop-work.invariant in
+    let on = c.loop-work-test.ensures in
+    (omega arith, r.moves.1, grown_turn s (bar_ahead s) (alternation_more i s) _ c.args.used _ c.loop-work.work _ c.loop-work.all _ v.2 (λ t. on) r.gives r.moves.0 v.1)
 
 pub alternation-returns : goal.alternation-returns
 alternation-returns t c =
     let s = c.args.s.now in
     let i = inside c.args.depth s in
-    let v = c.loop-all.invariant in
-    let off = c.loop-all-test.ensures in
+    let v = c.loop-work.invariant in
+    let off = c.loop-work-test.ensures in
     record {
-      gives = grown_stop s (bar_ahead s) (alternation_more i s) _ c.args.used c.args.work.now _ c.loop-all.work c.loop-all.all v.2 (λ t. off) c.in_ok-all.ensures.gives.kept;
+      gives = grown_stop s (bar_ahead s) (alternation_more i s) _ c.args.used c.args.work.now _ c.loop-work.work c.loop-work.all v.2 (λ t. off) c.in_ok-all.ensures.gives.kept;
       moves = (v.0, v.1);
     }
 
@@ -61,7 +61,7 @@ alternative-returns t c =
     let i = inside c.args.depth s in
     let m = c.in_ok-more.ensures in
     record {
-      gives = choice_steps (branch_by i s (c.args.all.now.at + 1) c.args.all.now.used) c.args.base c.args.work.now _ c.args.work.now c.args.all.now _ _ m.gives c.choice.ensures refl refl;
+      gives = choice_steps (branch_by i s (c.args.all.at + 1) c.args.all.used) c.args.base c.args.work.now _ c.args.work.now c.args.all _ _ m.gives c.choice.ensures refl refl;
       moves = (omega arith, m.moves.1);
     }
 
@@ -100,8 +100,8 @@ branch-returns-in_err-all t c =
     let r = c.in_err-all.ensures in
     rw (p.1, p.2) record { gives = branch_is i s c.args.at c.args.used ∙ ap (λ (o : Out Parsed). then o (many (branch_goes_on s) (branch_more i s) (length s))) r.gives; moves = tt }
 
-pub branch-loop-all-init : goal.branch-loop-all-init
-branch-loop-all-init t c =
+pub branch-loop-work-init : goal.branch-loop-work-init
+branch-loop-work-init t c =
     let s = c.args.s.now in
     let i = inside c.args.depth s in
     let r = c.in_ok-all.ensures in
@@ -111,7 +111,7 @@ pub branch-extended-requires : goal.branch-extended-requires
 branch-extended-requires t c =
     let s = c.args.s.now in
     let i = inside c.args.depth s in
-    (omega arith, ((omega arith), grown_counted s (branch_goes_on s) (branch_more i s) _ c.args.used _ c.loop-all.work c.loop-all.all c.loop-all.invariant.2))
+    (omega arith, grown_counted s (branch_goes_on s) (branch_more i s) _ c.args.used _ c.loop-work.work c.loop-work.all c.loop-work.invariant.2)
 
 pub branch-returns-in_err-all-2 : goal.branch-returns-in_err-all-2
 branch-returns-in_err-all-2 t c =
@@ -119,27 +119,27 @@ branch-returns-in_err-all-2 t c =
     let i = inside c.args.depth s in
     let p = err_from_is_err_and c.from_residual-in_err-all-2.result c.from_residual-in_err-all-2.ensures.1 in
     let r = c.in_err-all-2.ensures in
-    let v = c.loop-all.invariant in
-    let on = c.loop-all-test.ensures in
-    rw (p.1, p.2) record { gives = grown_fails s (branch_goes_on s) (branch_more i s) _ c.args.used _ c.loop-all.work c.loop-all.work c.loop-all.all _ v.2 (λ t. on) r.gives v.1; moves = tt }
+    let v = c.loop-work.invariant in
+    let on = c.loop-work-test.ensures in
+    rw (p.1, p.2) record { gives = grown_fails s (branch_goes_on s) (branch_more i s) _ c.args.used _ c.loop-work.work c.loop-work.work c.loop-work.all _ v.2 (λ t. on) r.gives v.1; moves = tt }
 
-pub branch-loop-all-preserved : goal.branch-loop-all-preserved
-branch-loop-all-preserved t c =
+pub branch-loop-work-preserved : goal.branch-loop-work-preserved
+branch-loop-work-preserved t c =
     let s = c.args.s.now in
     let i = inside c.args.depth s in
     let r = c.in_ok-all-2.ensures in
-    let v = c.loop-all.invariant in
-    let on = c.loop-all-test.ensures in
-    (omega arith, r.moves.1, grown_turn s (branch_goes_on s) (branch_more i s) _ c.args.used _ c.loop-all.work _ c.loop-all.all _ v.2 (λ t. on) r.gives r.moves.0 v.1)
+    let v = c.loop-work.invariant in
+    let on = c.loop-work-test.ensures in
+    (omega arith, r.moves.1, grown_turn s (branch_goes_on s) (branch_more i s) _ c.args.used _ c.loop-work.work _ c.loop-work.all _ v.2 (λ t. on) r.gives r.moves.0 v.1)
 
 pub branch-returns : goal.branch-returns
 branch-returns t c =
     let s = c.args.s.now in
     let i = inside c.args.depth s in
-    let v = c.loop-all.invariant in
-    let off = c.loop-all-test.ensures in
+    let v = c.loop-work.invariant in
+    let off = c.loop-work-test.ensures in
     record {
-      gives = grown_stop s (branch_goes_on s) (branch_more i s) _ c.args.used c.args.work.now _ c.loop-all.work c.loop-all.all v.2 (λ t. off) c.in_ok-all.ensures.gives.kept;
+      gives = grown_stop s (branch_goes_on s) (branch_more i s) _ c.args.used c.args.work.now _ c.loop-work.work c.loop-work.all v.2 (λ t. off) c.in_ok-all.ensures.gives.kept;
       moves = (v.0, v.1);
     }
 
@@ -147,10 +147,10 @@ pub extended-returns : goal.extended-returns
 extended-returns t c =
     let s = c.args.s.now in
     let i = inside c.args.depth s in
-    let all = c.args.all.now in
+    let all = c.args.all in
     let m = c.in_ok-more.ensures in
     record {
-      gives = λ e h. lays_by (extended_joins i s (parsed_as all e) c.if-stands.ensures) (joined_steps (piece_by i s all.at all.used) c.args.base c.args.work.now _ _ all _ _ m.gives c.joined.ensures (omega arith) e h);
+      gives = λ e h. lays_by (extended_joins i s (parsed_as all e) c.if-stands.ensures) (joined_steps (piece_by i s all.at all.used) c.args.base c.args.work.now _ _ all _ _ m.gives c.then.ensures (omega arith) e h);
       moves = (omega arith, omega arith);
     }
 
@@ -166,7 +166,7 @@ group-returns-then-not-stands t c =
     let s = c.args.s.now in
     let l = c.in_ok-inner.ensures.gives in
     record {
-      gives = closed_open c.args.depth s c.args.at c.args.used (parsed_as c.in_ok-inner.inner l.tree) c.if-depth-eq0.false l.is c.if-not-stands.ensures ∙ ap (λ (f : Fault). Err f) (sym c.refused-then-not-stands.ensures);
+      gives = closed_open c.args.depth s c.args.at c.args.used (parsed_as c.in_ok-inner.inner l.tree) c.if-depth-eq0.false l.is c.if-not-stands.ensures ∙ ap (λ (f : Fault). Err f) (sym c.misfit.ensures);
       moves = tt;
     }
 
@@ -195,7 +195,7 @@ piece-loop-mark-init t c =
     let s = c.args.s.now in
     let i = inside c.args.depth s in
     let r = c.in_ok-all.ensures in
-    (r.moves.0, r.moves.1, grown_start s (marked s) (repeated_more s) _ c.args.used _ _ _ _ (omega arith) (piece_is i s c.args.at c.args.used) r.gives)
+    (r.moves.0, r.moves.1, omega arith, grown_start s (marked s) (repeated_more s) _ c.args.used _ _ _ _ (omega arith) (piece_is i s c.args.at c.args.used) r.gives)
 
 pub piece-loop-mark-preserved : goal.piece-loop-mark-preserved
 piece-loop-mark-preserved t c =
@@ -205,13 +205,13 @@ piece-loop-mark-preserved t c =
     let m = c.in-Some.ensures in
     let below = passes_below repeat_mark s all.at (sym m.0) in
     let j = c.marked-all.ensures in
-    (omega (arith, j.at), omega (arith, j.at, below), grown_turn s (marked s) (repeated_more s) _ c.args.used _ c.loop-mark.work _ all _ v.2 (λ e. sym m.0) (marked_steps s c.in-Some.mark c.args.used c.loop-mark.work _ all _ m.1 (omega arith) j) (omega (arith, j.at)) v.1)
+    (omega (arith, j.at), omega (arith, j.at, below), omega arith, grown_turn s (marked s) (repeated_more s) _ c.args.used _ c.loop-mark.work _ all _ v.3 (λ e. sym m.0) (marked_steps s c.in-Some.mark c.args.used c.loop-mark.work _ all _ m.1 (omega arith) j) (omega (arith, j.at)) v.1)
 
 pub piece-returns : goal.piece-returns
 piece-returns t c =
     let s = c.args.s.now in
     let v = c.loop-mark.invariant in
     record {
-      gives = grown_stop s (marked s) (repeated_more s) _ c.args.used c.args.work.now _ c.loop-mark.work c.loop-mark.all v.2 (λ e. sym c.in_default.ensures) c.in_ok-all.ensures.gives.kept;
+      gives = grown_stop s (marked s) (repeated_more s) _ c.args.used c.args.work.now _ c.loop-mark.work c.loop-mark.all v.3 (λ e. sym c.in_default.ensures) c.in_ok-all.ensures.gives.kept;
       moves = (v.0, v.1);
     }

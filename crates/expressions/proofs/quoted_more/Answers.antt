@@ -7,6 +7,6 @@ pub returns : goal.returns
 returns c =
     let m = c.in_ok-more.ensures in
     record {
-      gives = joined_steps (quoted_byte c.args.s.now c.args.all.now.at c.args.all.now.used) c.args.base c.args.work.now _ _ c.args.all.now _ _ m.gives c.joined.ensures (omega arith);
+      gives = joined_steps (quoted_byte c.args.s.now c.args.all.at c.args.all.used) c.args.base c.args.work.now _ _ c.args.all _ _ m.gives c.then.ensures (omega arith);
       moves = (omega arith, omega arith);
     }
