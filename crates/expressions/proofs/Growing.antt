@@ -36,18 +36,18 @@ pub record Grown (s : List ℕ) (go : Parsed → Bool) (step : Parsed → Out Pa
   pub holds : Holds w base r tree
   pub kept : Kept base w₀ w
 
-module _ (s : List ℕ) (go : Parsed → Bool) (step : Parsed → Out Parsed) (o : Out Parsed) (base : ℕ) where
-  pub grown_start : (first : Out Parsed) (w w' : Work) (r : Code) → 0 < r.at → o ≡ then first (many go step (length s)) → Lays first base w w' r → Grown s go step o base w' w' r
-  grown_start first w w' r h e l = record {
+module _ {s : List ℕ} {go : Parsed → Bool} {step : Parsed → Out Parsed} {o : Out Parsed} {base : ℕ} where
+  pub grown_start : {first : Out Parsed} {w w' : Work} {r : Code} → 0 < r.at → o ≡ then first (many go step (length s)) → Lays first base w w' r → Grown s go step o base w' w' r
+  grown_start {first = first} h e l = record {
     tree = l.tree;
     left = starts go step (bytes_left s) o _ (length s) (omega arith) (e ∙ ap (λ (x : Out Parsed). then x (many go step (length s))) l.is);
     holds = record { counts = l.counts; laid = l.laid };
     kept = kept_refl;
   }
 
-  pub grown_turn : (w₀ w w' : Work) (r r' : Code) → Grown s go step o base w₀ w r → ((t : Expression) → true ≡ go (parsed_as r t)) → Steps step base w w' r (Ok r')
+  pub grown_turn : {w₀ w w' : Work} {r r' : Code} → Grown s go step o base w₀ w r → ((t : Expression) → true ≡ go (parsed_as r t)) → Steps step base w w' r (Ok r')
       → r.at < r'.at → r.at ≤ length s → Grown s go step o base w₀ w' r'
-  grown_turn w₀ w w' r r' g on f up below =
+  grown_turn {w = w} {w' = w'} {r = r} {r' = r'} g on f up below =
       let l : Lays (step (parsed_as r g.tree)) base w w' r' = f g.tree g.holds in record {
         tree = l.tree;
         left = turns_on go step (bytes_left s) o (parsed_as r g.tree) (parsed_as r' l.tree) g.left (on g.tree) l.is (omega arith);
@@ -55,8 +55,8 @@ module _ (s : List ℕ) (go : Parsed → Bool) (step : Parsed → Out Parsed) (o
         kept = kept_trans g.kept l.kept;
       }
 
-  pub grown_stop : (u w₀ w : Work) (r : Code) → Grown s go step o base w₀ w r → ((t : Expression) → false ≡ go (parsed_as r t)) → Kept base u w₀ → Lays o base u w r
-  grown_stop u w₀ w r g off k = record {
+  pub grown_stop : {u w₀ w : Work} {r : Code} → Grown s go step o base w₀ w r → ((t : Expression) → false ≡ go (parsed_as r t)) → Kept base u w₀ → Lays o base u w r
+  grown_stop {r = r} g off k = record {
     tree = g.tree;
     is = stops go step (bytes_left s) o (parsed_as r g.tree) g.left (off g.tree);
     counts = g.holds.counts;
@@ -64,12 +64,13 @@ module _ (s : List ℕ) (go : Parsed → Bool) (step : Parsed → Out Parsed) (o
     kept = kept_trans k g.kept;
   }
 
-  pub grown_fails : (w₀ w w' : Work) (r : Code) (f : Fault) → Grown s go step o base w₀ w r → ((t : Expression) → true ≡ go (parsed_as r t)) → Steps step base w w' r (Err f) → r.at ≤ length s → o ≡ Err f
-  grown_fails w₀ w w' r f g on h below =
+  pub grown_fails : {w₀ w : Work} {r : Code} {f : Fault} → Grown s go step o base w₀ w r → ((t : Expression) → true ≡ go (parsed_as r t))
+      → ((t : Expression) → Holds w base r t → step (parsed_as r t) ≡ Err f) → r.at ≤ length s → o ≡ Err f
+  grown_fails {r = r} {f = f} g on h below =
       fails go step (bytes_left s) o (parsed_as r g.tree) f g.left (on g.tree) (h g.tree g.holds) (omega arith)
 
-  pub grown_counted : (w₀ w : Work) (r : Code) → Grown s go step o base w₀ w r → Counted base r
-  grown_counted w₀ w r g = (omega (arith, g.holds.counts, size_pos g.tree), omega (arith, g.holds.counts, g.holds.laid.within))
+  pub grown_counted : {w₀ w : Work} {r : Code} → Grown s go step o base w₀ w r → Counted base r
+  grown_counted g = (omega (arith, g.holds.counts, size_pos g.tree), omega (arith, g.holds.counts, g.holds.laid.within))
 
 -- a further part, behind what r has been read as
 module _ (p : Out Parsed) (base : ℕ) (w w₁ w₂ : Work) (all more r : Code) where
@@ -176,6 +177,14 @@ interval_full s base w w' all b x e x-is past t h =
 pub gives_by : {o o' : Out Parsed} (base : ℕ) (w w' : Work) (r : Result Code Fault) → o ≡ o' → Gives o' base w w' r → Gives o base w w' r
 gives_by base w w' (Ok r) e l = lays_by e l
 gives_by base w w' (Err f) e l = e ∙ l
+
+-- the exit of a `?`, whose fault is f
+pub gives_fault : {o : Out Parsed} {r : Result Code Fault} {f : Fault} (base : ℕ) (w w' : Work) → (y : Fault) × (r ≡ Err y) × (y ≡ f) → o ≡ Err f → Gives o base w w' r
+gives_fault {o = o} base w w' p e = subst (λ (r : Result Code Fault). Gives o base w w' r) (sym (p.1 ∙ ap (λ (y : Fault). Err y) p.2)) e
+
+-- a fault is a fault of all that would go on behind it
+pub then_fault : {X Y : Type 0} {o : Out Y} {first : Out X} {f : Fault} (more : X → Out Y) → o ≡ then first more → first ≡ Err f → o ≡ Err f
+then_fault more e h = e ∙ ap (λ (x : Out _). then x more) h
 
 -- what was read from the next byte on was read from this one on
 pub moves_on : (r : Result Code Fault) (at n : ℕ) → Moves r (at + 1) n → Moves r at n

@@ -380,6 +380,7 @@ fn alternation(
 ) -> Result<Parsed, Fault>
     ensures gives { Gives (alternation_by (inside depth s.now) s.now at used) used work.old work.new result }
     ensures moves { Moves result at (length s.now) }
+    ensures whole { length work.new ≡ 1024 }
 {
     let mut all = branch(s, at, used, depth, work)?;
     while stands(s, all.at, b'|') {
@@ -398,7 +399,7 @@ pub fn expression(
     ensures gives { Expressed s.now at used work.old work.new result }
     ensures moves { Moves result at (length s.now) }
 {
-    let Some(work) = work.first_chunk_mut::<SETS>() else {
+    let Some(work) = work.first_chunk_mut() else {
         return Err(refused(Refusal::Memory, 0));
     };
     alternation(s, at, used, DEPTH, work)

@@ -7,53 +7,34 @@ use Rattle.grammar.specs.Expressions.{repeat_mark}
 use Rattle.expressions.specs.Lays.{parsed_as}
 use Rattle.tokens.proofs.Items.{stands_below, passes_below}
 use Rattle.expressions.proofs.Atoms.{group_is, atom_quote, atom_group, atom_one, piece_is, branch_is, alternation_is, closed_open, closed_shut, extended_joins}
-use Rattle.expressions.proofs.Growing.{Code, grown_start, grown_turn, grown_stop, grown_fails, grown_counted, past_lays, lays_by, joined_steps, choice_steps, marked_steps, gives_by, moves_on}
+use Rattle.expressions.proofs.Growing.{Code, grown_start, grown_turn, grown_stop, grown_fails, grown_counted, past_lays, lays_by, joined_steps, choice_steps, marked_steps, gives_by, gives_fault, then_fault, moves_on}
 use Rattle.expressions.proofs.+alternation_alternative_atom_branch_extended_group_piece.Goals as goal
 
-pub alternation-returns-in_err-all : goal.alternation-returns-in_err-all
-alternation-returns-in_err-all t c =
+pub alternation-returns-in_err-all-clause-gives : goal.alternation-returns-in_err-all-clause-gives
+alternation-returns-in_err-all-clause-gives t c =
     let s = c.args.s.now in
     let i = inside c.args.depth s in
-    let p = err_from_is_err_and c.from_residual.result c.from_residual.ensures.1 in
-    let r = c.in_err-all.ensures in
-    rw (p.1, p.2) record { gives = alternation_is i s c.args.at c.args.used ∙ ap (λ (o : Out Parsed). then o (many (bar_ahead s) (alternation_more i s) (length s))) r.gives; moves = tt }
+    gives_fault _ _ _ (err_from_is_err_and c.from_residual.result c.from_residual.ensures.1) (then_fault (many (bar_ahead s) (alternation_more i s) (length s)) (alternation_is i s c.args.at c.args.used) c.in_err-all.ensures.gives)
 
 pub alternation-loop-work-init : goal.alternation-loop-work-init
 alternation-loop-work-init t c =
-    let s = c.args.s.now in
-    let i = inside c.args.depth s in
     let r = c.in_ok-all.ensures in
-    (r.moves.0, r.moves.1, grown_start s (bar_ahead s) (alternation_more i s) _ c.args.used _ _ _ _ (omega arith) (alternation_is i s c.args.at c.args.used) r.gives)
+    (r.moves.0, r.moves.1, omega arith, grown_start (omega arith) (alternation_is (inside c.args.depth c.args.s.now) c.args.s.now c.args.at c.args.used) r.gives)
 
-pub alternation-returns-in_err-all-2 : goal.alternation-returns-in_err-all-2
-alternation-returns-in_err-all-2 t c =
-    let s = c.args.s.now in
-    let i = inside c.args.depth s in
-    let p = err_from_is_err_and c.from_residual-in_err-all-2.result c.from_residual-in_err-all-2.ensures.1 in
-    let r = c.in_err-all-2.ensures in
+pub alternation-returns-in_err-all-2-clause-gives : goal.alternation-returns-in_err-all-2-clause-gives
+alternation-returns-in_err-all-2-clause-gives t c =
     let v = c.loop-work.invariant in
-    let on = c.loop-work-test.ensures in
-    rw (p.1, p.2) record { gives = grown_fails s (bar_ahead s) (alternation_more i s) _ c.args.used _ c.loop-work.work c.loop-work.work c.loop-work.all _ v.2 (λ t. on) r.gives v.1; moves = tt }
+    gives_fault _ _ _ (err_from_is_err_and c.from_residual-in_err-all-2.result c.from_residual-in_err-all-2.ensures.1)
+    (grown_fails v.3 (λ t. c.loop-work-test.ensures) c.in_err-all-2.ensures.gives v.1)
 
 pub alternation-loop-work-preserved : goal.alternation-loop-work-preserved
 alternation-loop-work-preserved t c =
-    let s = c.args.s.now in
-    let i = inside c.args.depth s in
     let r = c.in_ok-all-2.ensures in
     let v = c.loop-work.invariant in
-    let on = c.loop-work-test.ensures in
-    (omega arith, r.moves.1, grown_turn s (bar_ahead s) (alternation_more i s) _ c.args.used _ c.loop-work.work _ c.loop-work.all _ v.2 (λ t. on) r.gives r.moves.0 v.1)
+    (omega arith, r.moves.1, omega arith, grown_turn v.3 (λ t. c.loop-work-test.ensures) r.gives r.moves.0 v.1)
 
-pub alternation-returns : goal.alternation-returns
-alternation-returns t c =
-    let s = c.args.s.now in
-    let i = inside c.args.depth s in
-    let v = c.loop-work.invariant in
-    let off = c.loop-work-test.ensures in
-    record {
-      gives = grown_stop s (bar_ahead s) (alternation_more i s) _ c.args.used c.args.work.now _ c.loop-work.work c.loop-work.all v.2 (λ t. off) c.in_ok-all.ensures.gives.kept;
-      moves = (v.0, v.1);
-    }
+pub alternation-returns-clause-gives : goal.alternation-returns-clause-gives
+alternation-returns-clause-gives t c = grown_stop c.loop-work.invariant.3 (λ t. c.loop-work-test.ensures) c.in_ok-all.ensures.gives.kept
 
 pub alternative-returns : goal.alternative-returns
 alternative-returns t c =
@@ -92,56 +73,34 @@ atom-returns t c =
       moves = c.one.ensures.moves;
     }
 
-pub branch-returns-in_err-all : goal.branch-returns-in_err-all
-branch-returns-in_err-all t c =
+pub branch-returns-in_err-all-clause-gives : goal.branch-returns-in_err-all-clause-gives
+branch-returns-in_err-all-clause-gives t c =
     let s = c.args.s.now in
     let i = inside c.args.depth s in
-    let p = err_from_is_err_and c.from_residual.result c.from_residual.ensures.1 in
-    let r = c.in_err-all.ensures in
-    rw (p.1, p.2) record { gives = branch_is i s c.args.at c.args.used ∙ ap (λ (o : Out Parsed). then o (many (branch_goes_on s) (branch_more i s) (length s))) r.gives; moves = tt }
+    gives_fault _ _ _ (err_from_is_err_and c.from_residual.result c.from_residual.ensures.1) (then_fault (many (branch_goes_on s) (branch_more i s) (length s)) (branch_is i s c.args.at c.args.used) c.in_err-all.ensures.gives)
 
 pub branch-loop-work-init : goal.branch-loop-work-init
 branch-loop-work-init t c =
-    let s = c.args.s.now in
-    let i = inside c.args.depth s in
     let r = c.in_ok-all.ensures in
-    (r.moves.0, r.moves.1, grown_start s (branch_goes_on s) (branch_more i s) _ c.args.used _ _ _ _ (omega arith) (branch_is i s c.args.at c.args.used) r.gives)
+    (r.moves.0, r.moves.1, grown_start (omega arith) (branch_is (inside c.args.depth c.args.s.now) c.args.s.now c.args.at c.args.used) r.gives)
 
-pub branch-extended-requires : goal.branch-extended-requires
-branch-extended-requires t c =
-    let s = c.args.s.now in
-    let i = inside c.args.depth s in
-    (omega arith, grown_counted s (branch_goes_on s) (branch_more i s) _ c.args.used _ c.loop-work.work c.loop-work.all c.loop-work.invariant.2)
-
-pub branch-returns-in_err-all-2 : goal.branch-returns-in_err-all-2
-branch-returns-in_err-all-2 t c =
-    let s = c.args.s.now in
-    let i = inside c.args.depth s in
-    let p = err_from_is_err_and c.from_residual-in_err-all-2.result c.from_residual-in_err-all-2.ensures.1 in
-    let r = c.in_err-all-2.ensures in
+pub branch-returns-in_err-all-2-clause-gives : goal.branch-returns-in_err-all-2-clause-gives
+branch-returns-in_err-all-2-clause-gives t c =
     let v = c.loop-work.invariant in
-    let on = c.loop-work-test.ensures in
-    rw (p.1, p.2) record { gives = grown_fails s (branch_goes_on s) (branch_more i s) _ c.args.used _ c.loop-work.work c.loop-work.work c.loop-work.all _ v.2 (λ t. on) r.gives v.1; moves = tt }
+    gives_fault _ _ _ (err_from_is_err_and c.from_residual-in_err-all-2.result c.from_residual-in_err-all-2.ensures.1)
+    (grown_fails v.2 (λ t. c.loop-work-test.ensures) c.in_err-all-2.ensures.gives v.1)
 
 pub branch-loop-work-preserved : goal.branch-loop-work-preserved
 branch-loop-work-preserved t c =
-    let s = c.args.s.now in
-    let i = inside c.args.depth s in
     let r = c.in_ok-all-2.ensures in
     let v = c.loop-work.invariant in
-    let on = c.loop-work-test.ensures in
-    (omega arith, r.moves.1, grown_turn s (branch_goes_on s) (branch_more i s) _ c.args.used _ c.loop-work.work _ c.loop-work.all _ v.2 (λ t. on) r.gives r.moves.0 v.1)
+    (omega arith, r.moves.1, grown_turn v.2 (λ t. c.loop-work-test.ensures) r.gives r.moves.0 v.1)
 
-pub branch-returns : goal.branch-returns
-branch-returns t c =
-    let s = c.args.s.now in
-    let i = inside c.args.depth s in
-    let v = c.loop-work.invariant in
-    let off = c.loop-work-test.ensures in
-    record {
-      gives = grown_stop s (branch_goes_on s) (branch_more i s) _ c.args.used c.args.work.now _ c.loop-work.work c.loop-work.all v.2 (λ t. off) c.in_ok-all.ensures.gives.kept;
-      moves = (v.0, v.1);
-    }
+pub branch-returns-clause-gives : goal.branch-returns-clause-gives
+branch-returns-clause-gives t c = grown_stop c.loop-work.invariant.2 (λ t. c.loop-work-test.ensures) c.in_ok-all.ensures.gives.kept
+
+pub branch-extended-requires : goal.branch-extended-requires
+branch-extended-requires t c = (omega arith, grown_counted c.loop-work.invariant.2)
 
 pub extended-returns : goal.extended-returns
 extended-returns t c =
@@ -154,12 +113,10 @@ extended-returns t c =
       moves = (omega arith, omega arith);
     }
 
-pub group-returns-in_err-inner : goal.group-returns-in_err-inner
-group-returns-in_err-inner t c =
+pub group-returns-in_err-inner-clause-gives : goal.group-returns-in_err-inner-clause-gives
+group-returns-in_err-inner-clause-gives t c =
     let s = c.args.s.now in
-    let p = err_from_is_err_and c.from_residual.result c.from_residual.ensures.1 in
-    let r = c.in_err-inner.ensures in
-    rw (p.1, p.2) record { gives = group_is c.args.depth s c.args.at c.args.used c.if-depth-eq0.false ∙ ap (λ (o : Out Parsed). then o (closed_group s)) r.gives; moves = tt }
+    gives_fault _ _ _ (err_from_is_err_and c.from_residual.result c.from_residual.ensures.1) (then_fault (closed_group s) (group_is c.args.depth s c.args.at c.args.used c.if-depth-eq0.false) c.in_err-inner.ensures.gives)
 
 pub group-returns-then-not-stands : goal.group-returns-then-not-stands
 group-returns-then-not-stands t c =
@@ -182,20 +139,16 @@ group-returns t c =
       moves = (omega (arith, at), omega (arith, at, stands_below s inner.at 41 on));
     }
 
-pub piece-returns-in_err-all : goal.piece-returns-in_err-all
-piece-returns-in_err-all t c =
+pub piece-returns-in_err-all-clause-gives : goal.piece-returns-in_err-all-clause-gives
+piece-returns-in_err-all-clause-gives t c =
     let s = c.args.s.now in
-    let i = inside c.args.depth s in
-    let p = err_from_is_err_and c.from_residual.result c.from_residual.ensures.1 in
-    let r = c.in_err-all.ensures in
-    rw (p.1, p.2) record { gives = piece_is i s c.args.at c.args.used ∙ ap (λ (o : Out Parsed). then o (many (marked s) (repeated_more s) (length s))) r.gives; moves = tt }
+    gives_fault _ _ _ (err_from_is_err_and c.from_residual.result c.from_residual.ensures.1)
+    (then_fault (many (marked s) (repeated_more s) (length s)) (piece_is (inside c.args.depth s) s c.args.at c.args.used) c.in_err-all.ensures.gives)
 
 pub piece-loop-mark-init : goal.piece-loop-mark-init
 piece-loop-mark-init t c =
-    let s = c.args.s.now in
-    let i = inside c.args.depth s in
     let r = c.in_ok-all.ensures in
-    (r.moves.0, r.moves.1, omega arith, grown_start s (marked s) (repeated_more s) _ c.args.used _ _ _ _ (omega arith) (piece_is i s c.args.at c.args.used) r.gives)
+    (r.moves.0, r.moves.1, omega arith, grown_start (omega arith) (piece_is (inside c.args.depth c.args.s.now) c.args.s.now c.args.at c.args.used) r.gives)
 
 pub piece-loop-mark-preserved : goal.piece-loop-mark-preserved
 piece-loop-mark-preserved t c =
@@ -205,13 +158,7 @@ piece-loop-mark-preserved t c =
     let m = c.in-Some.ensures in
     let below = passes_below repeat_mark s all.at (sym m.0) in
     let j = c.marked-all.ensures in
-    (omega (arith, j.at), omega (arith, j.at, below), omega arith, grown_turn s (marked s) (repeated_more s) _ c.args.used _ c.loop-mark.work _ all _ v.3 (λ e. sym m.0) (marked_steps s c.in-Some.mark c.args.used c.loop-mark.work _ all _ m.1 (omega arith) j) (omega (arith, j.at)) v.1)
+    (omega (arith, j.at), omega (arith, j.at, below), omega arith, grown_turn v.3 (λ e. sym m.0) (marked_steps s c.in-Some.mark c.args.used c.loop-mark.work _ all _ m.1 (omega arith) j) (omega (arith, j.at)) v.1)
 
-pub piece-returns : goal.piece-returns
-piece-returns t c =
-    let s = c.args.s.now in
-    let v = c.loop-mark.invariant in
-    record {
-      gives = grown_stop s (marked s) (repeated_more s) _ c.args.used c.args.work.now _ c.loop-mark.work c.loop-mark.all v.3 (λ e. sym c.in_default.ensures) c.in_ok-all.ensures.gives.kept;
-      moves = (v.0, v.1);
-    }
+pub piece-returns-clause-gives : goal.piece-returns-clause-gives
+piece-returns-clause-gives t c = grown_stop c.loop-mark.invariant.3 (λ e. sym c.in_default.ensures) c.in_ok-all.ensures.gives.kept

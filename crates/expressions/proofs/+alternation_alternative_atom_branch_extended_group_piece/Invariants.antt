@@ -26,7 +26,7 @@ decreases-group l = 8 * l.depth
 
 abbrev pub invariant-alternation-loop-work : goal.invariant-alternation-loop-work
 invariant-alternation-loop-work l =
-    (l.at < l.all.at) × (l.all.at ≤ length l.s)
+    (l.at < l.all.at) × (l.all.at ≤ length l.s) × (length l.work ≡ 1024)
     × Grown l.s (bar_ahead l.s) (alternation_more (inside l.depth l.s) l.s) (alternation_by (inside l.depth l.s) l.s l.at l.used) l.used l.initial.work l.work l.all
 
 abbrev pub decreases-alternation-loop-work : goal.decreases-alternation-loop-work
