@@ -36,42 +36,23 @@ alternation-loop-work-preserved t c =
 pub alternation-returns-clause-gives : goal.alternation-returns-clause-gives
 alternation-returns-clause-gives t c = grown_stop c.loop-work.invariant.3 (λ t. c.loop-work-test.ensures) c.in_ok-all.ensures.gives.kept
 
-pub alternative-returns : goal.alternative-returns
-alternative-returns t c =
+pub alternative-returns-clause-gives : goal.alternative-returns-clause-gives
+alternative-returns-clause-gives t c =
     let s = c.args.s.now in
-    let i = inside c.args.depth s in
-    let m = c.in_ok-more.ensures in
-    record {
-      gives = choice_steps (branch_by i s (c.args.all.at + 1) c.args.all.used) c.args.base c.args.work.now _ c.args.work.now c.args.all _ _ m.gives c.choice.ensures refl refl;
-      moves = (omega arith, m.moves.1);
-    }
+    let all = c.args.all in
+    choice_steps (branch_by (inside c.args.depth s) s (all.at + 1) all.used) c.args.base c.args.work.now _ c.args.work.now all _ _ c.in_ok-more.ensures.gives c.choice.ensures refl refl
 
-pub atom-returns-then-stands : goal.atom-returns-then-stands
-atom-returns-then-stands t c =
-    let s = c.args.s.now in
-    let i = inside c.args.depth s in
-    record {
-      gives = gives_by c.args.used c.args.work.now c.quote.new.work c.quote.result (atom_quote i s c.args.at c.args.used c.if-stands.ensures) c.quote.ensures.gives;
-      moves = moves_on c.quote.result c.args.at (length s) c.quote.ensures.moves;
-    }
+pub atom-returns-then-stands-clause-gives : goal.atom-returns-then-stands-clause-gives
+atom-returns-then-stands-clause-gives t c =
+    gives_by c.args.used c.args.work.now c.quote.new.work c.quote.result (atom_quote (inside c.args.depth c.args.s.now) c.args.s.now c.args.at c.args.used c.if-stands.ensures) c.quote.ensures.gives
 
-pub atom-returns-then-stands-2 : goal.atom-returns-then-stands-2
-atom-returns-then-stands-2 t c =
-    let s = c.args.s.now in
-    let i = inside c.args.depth s in
-    record {
-      gives = gives_by c.args.used c.args.work.now c.group.new.work c.group.result (atom_group i s c.args.at c.args.used c.if-stands.ensures c.if-stands-2.ensures) c.group.ensures.gives;
-      moves = c.group.ensures.moves;
-    }
+pub atom-returns-then-stands-2-clause-gives : goal.atom-returns-then-stands-2-clause-gives
+atom-returns-then-stands-2-clause-gives t c =
+    gives_by c.args.used c.args.work.now c.group.new.work c.group.result (atom_group (inside c.args.depth c.args.s.now) c.args.s.now c.args.at c.args.used c.if-stands.ensures c.if-stands-2.ensures) c.group.ensures.gives
 
-pub atom-returns : goal.atom-returns
-atom-returns t c =
-    let s = c.args.s.now in
-    let i = inside c.args.depth s in
-    record {
-      gives = gives_by c.args.used c.args.work.now c.one.new.work c.one.result (atom_one i s c.args.at c.args.used c.if-stands.ensures c.if-stands-2.ensures) c.one.ensures.gives;
-      moves = c.one.ensures.moves;
-    }
+pub atom-returns-clause-gives : goal.atom-returns-clause-gives
+atom-returns-clause-gives t c =
+    gives_by c.args.used c.args.work.now c.one.new.work c.one.result (atom_one (inside c.args.depth c.args.s.now) c.args.s.now c.args.at c.args.used c.if-stands.ensures c.if-stands-2.ensures) c.one.ensures.gives
 
 pub branch-returns-in_err-all-clause-gives : goal.branch-returns-in_err-all-clause-gives
 branch-returns-in_err-all-clause-gives t c =
@@ -102,30 +83,22 @@ branch-returns-clause-gives t c = grown_stop c.loop-work.invariant.2 (λ t. c.lo
 pub branch-extended-requires : goal.branch-extended-requires
 branch-extended-requires t c = (omega arith, grown_counted c.loop-work.invariant.2)
 
-pub extended-returns : goal.extended-returns
-extended-returns t c =
+pub extended-returns-clause-gives : goal.extended-returns-clause-gives
+extended-returns-clause-gives t c =
     let s = c.args.s.now in
     let i = inside c.args.depth s in
     let all = c.args.all in
-    let m = c.in_ok-more.ensures in
-    record {
-      gives = λ e h. lays_by (extended_joins i s (parsed_as all e) c.if-stands.ensures) (joined_steps (piece_by i s all.at all.used) c.args.base c.args.work.now _ _ all _ _ m.gives c.then.ensures (omega arith) e h);
-      moves = (omega arith, omega arith);
-    }
+    λ e h. lays_by (extended_joins i s (parsed_as all e) c.if-stands.ensures) (joined_steps (piece_by i s all.at all.used) c.args.base c.args.work.now _ _ all _ _ c.in_ok-more.ensures.gives c.then.ensures (omega arith) e h)
 
 pub group-returns-in_err-inner-clause-gives : goal.group-returns-in_err-inner-clause-gives
 group-returns-in_err-inner-clause-gives t c =
     let s = c.args.s.now in
     gives_fault _ _ _ (err_from_is_err_and c.from_residual.result c.from_residual.ensures.1) (then_fault (closed_group s) (group_is c.args.depth s c.args.at c.args.used c.if-depth-eq0.false) c.in_err-inner.ensures.gives)
 
-pub group-returns-then-not-stands : goal.group-returns-then-not-stands
-group-returns-then-not-stands t c =
-    let s = c.args.s.now in
+pub group-returns-then-not-stands-clause-gives : goal.group-returns-then-not-stands-clause-gives
+group-returns-then-not-stands-clause-gives t c =
     let l = c.in_ok-inner.ensures.gives in
-    record {
-      gives = closed_open c.args.depth s c.args.at c.args.used (parsed_as c.in_ok-inner.inner l.tree) c.if-depth-eq0.false l.is c.if-not-stands.ensures ∙ ap (λ (f : Fault). Err f) (sym c.misfit.ensures);
-      moves = tt;
-    }
+    closed_open c.args.depth c.args.s.now c.args.at c.args.used (parsed_as c.in_ok-inner.inner l.tree) c.if-depth-eq0.false l.is c.if-not-stands.ensures ∙ ap (λ (f : Fault). Err f) (sym c.misfit.ensures)
 
 pub group-returns : goal.group-returns
 group-returns t c =
