@@ -1,7 +1,7 @@
 // Sets of small numbers, in words.
 #![tactic(auto)]
 
-ghost use Rattle.std.specs.Prelude.{◌≡◌, ℕ, ◌+◌, ◌-◌, ◌*◌, ◌/◌, ◌<◌, true, false, not, ◌&&◌, ◌||◌, length, replicate, Decides, ◌==◌, nat_le, nat_lt};
+ghost use Rattle.std.specs.Prelude.{◌≡◌, ℕ, ◌+◌, ◌-◌, ◌*◌, ◌/◌, ◌<◌, ◌≤◌, true, false, not, ◌&&◌, ◌||◌, length, replicate, Decides, ◌==◌, nat_le, nat_lt};
 ghost use Rattle.bits.specs.Set.{bit, has, First, FirstBit, Whole, MembersDecide};
 
 // A set of numbers below 64 * W, in W words: k is in it where bit k % 64 of word k / 64 is set.
@@ -58,7 +58,8 @@ impl<const W: usize> Bits<W> {
 
     // The members below 64 * V.
     pub fn resized<const V: usize>(&self) -> Bits<V>
-        ensures { (j : ℕ) → has result.words j ≡ (nat_lt (j / 64) V && has self.now.words j) }
+        ensures members { (j : ℕ) → has result.words j ≡ (nat_lt (j / 64) V && has self.now.words j) }
+        ensures same { W ≤ V → (j : ℕ) → has result.words j ≡ has self.now.words j }
     {
         let mut out = Bits::empty();
         for (i, w) in out.words.iter_mut().enumerate() {

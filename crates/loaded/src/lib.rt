@@ -19,7 +19,7 @@ pub struct Row {
 
 // A rule: the conditions in which it is active, whether it asks for line start, the row that its trailing part starts
 // from, and its steps.
-#[derive(Clone, Copy)]
+#[derive(Clone, Copy, PartialEq, Eq)]
 pub struct Rule {
     pub conditions: ConditionSet,
     pub anchored: bool,
@@ -35,7 +35,7 @@ pub struct Start {
 }
 
 // All but the rows: the rules, the start rows by condition, and how many rules, conditions and rows there are.
-#[derive(Clone, Copy)]
+#[derive(Clone, Copy, PartialEq, Eq)]
 pub struct Loaded {
     pub rules: [Rule; 64],
     pub starts: [Start; 8],

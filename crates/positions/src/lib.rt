@@ -26,6 +26,22 @@ pub enum Repeat {
     Maybe,
 }
 
+impl Repeat {
+    // Whether what has the mark may be left out.
+    fn may_lack(self) -> bool
+        ensures { result ≡ empties self }
+    {
+        self != Repeat::Some
+    }
+
+    // Whether what has the mark may come again straight after itself.
+    fn goes_round(self) -> bool
+        ensures { result ≡ goes_round self }
+    {
+        self != Repeat::Maybe
+    }
+}
+
 // Whether there are sets for every position: one for its bytes, and one for what follows it.
 fn is_roomy(work: &[PositionSet]) -> bool
     ensures { result ≡ roomy work.now }
@@ -56,9 +72,9 @@ pub fn link(work: &mut [PositionSet], ends: &PositionSet, starts: &PositionSet)
     if !is_roomy(work) {
         return;
     }
-    for p in 0..POSITIONS {
+    for (p, next) in work[POSITIONS..2 * POSITIONS].iter_mut().enumerate() {
         if ends.has(p) {
-            work[POSITIONS + p].add_all(starts);
+            next.add_all(starts);
         }
     }
 }
@@ -97,29 +113,15 @@ pub fn choice(x: &Fragment, y: &Fragment) -> Fragment
     }
 }
 
-// Whether what has the mark may be left out.
-fn may_lack(mark: Repeat) -> bool
-    ensures { result ≡ empties mark }
-{
-    mark != Repeat::Some
-}
-
-// Whether what has the mark may come again straight after itself.
-fn goes_round(mark: Repeat) -> bool
-    ensures { result ≡ goes_round mark }
-{
-    mark != Repeat::Maybe
-}
-
 // x with a repeat mark.
 pub fn repeats(work: &mut [PositionSet], mark: Repeat, x: &Fragment) -> Fragment
     ensures { Repeats mark work.old work.new x.now result }
 {
-    if goes_round(mark) {
+    if mark.goes_round() {
         link(work, &x.last, &x.first);
     }
     Fragment {
-        nullable: may_lack(mark) || x.nullable,
+        nullable: mark.may_lack() || x.nullable,
         first: x.first,
         last: x.last,
     }
@@ -141,8 +143,15 @@ fn copy_sets(work: &mut [PositionSet], from: usize, count: usize, by: usize)
     requires { (count ≤ by) × (from + count + by ≤ length work.old) }
     ensures { (k q : ℕ) → member work.new k q ≡ (if between (from + by) (from + count + by) k then member work.old (k - by) q else member work.old k q) }
 {
-    for i in 0..count {
-        work[from + by + i] = work[from + i];
+    work.copy_within(from..from + count, from + by);
+}
+
+// Moves each member of the sets up.
+fn shift_sets(sets: &mut [PositionSet], by: usize)
+    ensures { (k q : ℕ) → member sets.new k q ≡ (nat_lt q 512 && (nat_le by q && member sets.old k (q - by))) }
+{
+    for set in sets.iter_mut() {
+        *set = set.shifted(by);
     }
 }
 
@@ -151,9 +160,8 @@ fn move_sets(work: &mut [PositionSet], from: usize, count: usize, by: usize)
     requires { (count ≤ by) × (from + count + by ≤ length work.old) }
     ensures { (k q : ℕ) → member work.new k q ≡ (if between (from + by) (from + count + by) k then nat_lt q 512 && (nat_le by q && member work.old (k - by) (q - by)) else member work.old k q) }
 {
-    for i in 0..count {
-        work[from + by + i] = work[from + i].shifted(by);
-    }
+    copy_sets(work, from, count, by);
+    shift_sets(&mut work[from + by..from + by + count], by);
 }
 
 // A copy of the `count` positions from `from` on, and of x, which is made of them, `by` further up.

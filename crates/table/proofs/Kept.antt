@@ -1,9 +1,8 @@
 -- What a table keeps true, of whole memory cut to its rows, and of INITIAL without rules.
-use Rattle.std.proofs.Common.{◌≡◌, ℕ, ◌<◌, ◌≤◌, List, [], length, take, refl, sym, subst, arith}
+use Rattle.std.proofs.Common.{◌≡◌, ℕ, ◌<◌, ◌≤◌, List, [], length, take, sym, subst, arith}
 use Rattle.std.proofs.lemmas.List.{get_or-take, get_or-replicate, length-take-le}
 use Rattle.loaded.specs.declared.Row.{Row}
 use Rattle.loaded.specs.declared.Rule.{Rule}
-use Rattle.loaded.specs.declared.Start.{Start}
 use Rattle.loaded.specs.declared.Loaded.{Loaded}
 use Rattle.loaded.specs.Zeros.{no_rule, no_start, zeros}
 use Rattle.table.specs.Memory.{row_at, StartIn, StartsIn, TrailsIn, LeadsIn, MarkedIn, Whole}
@@ -30,15 +29,15 @@ cut_whole l rs w = (
     same k h = sym (get_or-take n rs k _ h)
 
 no_starts : StartsIn initial_only
-unfolding initial_only zeros no_start
+unfolding zeros no_start
 no_starts c h = subst (StartIn 0) (sym (get_or-replicate 8 c no_start _ h)) (omega arith, omega arith)
 
 no_trails : TrailsIn initial_only
-unfolding initial_only zeros no_rule
+unfolding zeros no_rule
 no_trails i h = subst (λ (r : Rule). r.trail ≤ 0) (sym (get_or-replicate 64 i no_rule _ h)) (omega arith)
 
 pub initial_whole : Whole initial_only []
-unfolding initial_only
+unfolding zeros
 initial_whole = (
   (omega arith, omega arith, omega arith, omega arith),
   no_starts,
@@ -48,7 +47,3 @@ initial_whole = (
   λ i h. absurd (omega arith),
   λ i h. absurd (omega arith),
 )
-
-pub initial_exact : initial_only.row_count ≡ 0
-unfolding initial_only
-initial_exact = refl

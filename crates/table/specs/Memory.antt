@@ -1,8 +1,8 @@
 -- Loaded memory and rows that name nothing they lack.
-use Rattle.std.specs.Prelude.{◌≡◌, ℕ, ◌^◌, ◌<◌, ◌≤◌, Bool, true, false, IsTrue, List, [], length, Some, None, Option, get_or, nat_lt, slice_index, slice_index_or}
+use Rattle.std.specs.Prelude.{◌≡◌, ℕ, ◌^◌, ◌<◌, ◌≤◌, Bool, true, false, IsTrue, List, [], length, Some, None, Option, nat_lt, slice_index, slice_index_or}
 use Rattle.bits.specs.Set.{has}
 use Rattle.grammar.specs.declared.Step.{Step}
-use Rattle.grammar.specs.declared.Step.TheVariants.{Echo, Mark, Begin, More, Less, Reject}
+use Rattle.grammar.specs.declared.Step.TheVariants.{Begin}
 use Rattle.loaded.specs.declared.Row.{Row}
 use Rattle.loaded.specs.declared.Rule.{Rule}
 use Rattle.loaded.specs.declared.Start.{Start}
@@ -10,13 +10,13 @@ use Rattle.loaded.specs.declared.Loaded.{Loaded}
 
 -- the row, the rule and the start rows at an index from 0; zeros past the end
 abbrev pub row_at : List Row → ℕ → Row
-row_at rs k = get_or rs k record { next = []; ends = 0; slashes = 0 }
+row_at rs k = slice_index_or rs k record { next = []; ends = 0; slashes = 0 }
 
 abbrev pub rule_at : Loaded → ℕ → Rule
-rule_at l i = get_or l.rules i record { conditions = record { words = [] }; anchored = false; trail = 0; steps = [] }
+rule_at l i = slice_index_or l.rules i record { conditions = record { words = [] }; anchored = false; trail = 0; steps = [] }
 
 abbrev pub start_at : Loaded → ℕ → Start
-start_at l c = get_or l.starts c record { inside = 0; at_line_start = 0 }
+start_at l c = slice_index_or l.starts c record { inside = 0; at_line_start = 0 }
 
 -- the counts fit the memory, which has n rows, and INITIAL is always there
 abbrev pub CountsFit : Loaded → ℕ → Type 0
@@ -56,13 +56,8 @@ RulesActiveIn l = (i : ℕ) → i < l.rule_count → ActiveIn l.condition_count 
 
 -- and none of its steps begins one
 abbrev pub step_in : ℕ → Option Step → Bool
-step_in n None = true
-step_in n (Some Echo) = true
-step_in n (Some (Mark m)) = true
 step_in n (Some (Begin c)) = nat_lt c n
-step_in n (Some More) = true
-step_in n (Some (Less m)) = true
-step_in n (Some Reject) = true
+step_in n _ = true
 
 abbrev pub BeginsIn : ℕ → List (Option Step) → Type 0
 BeginsIn n ts = (j : ℕ) → j < 10 → IsTrue (step_in n (slice_index_or ts j None))

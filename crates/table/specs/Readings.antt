@@ -6,14 +6,8 @@ use Rattle.loaded.specs.declared.Loaded.{Loaded}
 use Rattle.loaded.specs.Zeros.{zeros}
 
 -- INITIAL without rules
-unfoldable pub initial_only : Loaded
-initial_only = record {
-  rules = zeros.rules;
-  starts = zeros.starts;
-  rule_count = 0;
-  condition_count = 1;
-  row_count = 0;
-}
+abbrev pub initial_only : Loaded
+initial_only = record zeros { condition_count = 1 }
 
 -- the element of a number that counts from 1
 abbrev pub numbered : {X : Type 0} → List X → ℕ → Option X

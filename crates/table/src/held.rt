@@ -7,7 +7,8 @@ ghost use Rattle.table.specs.Readings.{initial_only, numbered, start_row, next_r
 use crate::check;
 use loaded::{Loaded, Row};
 
-// Rows past the count are cut off.
+// Rows past the count are cut off. A row is named as in loaded memory, whose form is fixed: by a u16 that counts from 1, and
+// 0 is no row.
 #[derive(Drop)]
 pub struct Table<'a> {
     loaded: Loaded,
@@ -37,21 +38,17 @@ fn whole<'a>(loaded: &'a Loaded, rows: &'a [Row]) -> Table<'a>
     }
 }
 
+#[tactic(auto, unfolding(loaded::specs::Zeros::zeros))]
 fn initial<'a>() -> Table<'a>
     ensures { (result.loaded ≡ initial_only) × (result.rows.now ≡ []) }
 {
     Table {
-        loaded: initial_only(),
+        loaded: Loaded {
+            condition_count: 1,
+            ..Loaded::zeros()
+        },
         rows: &[],
     }
-}
-
-fn initial_only() -> Loaded
-    ensures { result ≡ initial_only }
-{
-    let mut only = Loaded::zeros();
-    only.condition_count = 1;
-    only
 }
 
 impl<'a> Table<'a> {
@@ -114,7 +111,7 @@ impl<'a> Table<'a> {
     }
 }
 
-// What has this number, counted from 1; 0 is the number of nothing, as loaded memory has it.
+// What has this number, counted from 1; nothing has the number 0.
 fn numbered<T>(all: &[T], number: usize) -> Option<&T>
     ensures { option_copied result ≡ numbered all.now number }
 {

@@ -29,7 +29,6 @@ pub fn check(loaded: &Loaded, rows: &[Row]) -> Result<(), NotWhole>
     }
 }
 
-// The counts come first: the other parts read as far as these say.
 fn is_whole(loaded: &Loaded, rows: &[Row]) -> bool
     ensures { MatchBool result (Whole loaded.now rows.now) (Whole loaded.now rows.now → ⊥) }
 {
@@ -45,10 +44,9 @@ fn is_whole(loaded: &Loaded, rows: &[Row]) -> bool
 fn counts_fit(loaded: &Loaded, rows: usize) -> bool
     ensures { MatchBool result (CountsFit loaded.now rows) (CountsFit loaded.now rows → ⊥) }
 {
-    if loaded.row_count > rows || loaded.rule_count > 64 {
-        return false;
-    }
-    loaded.condition_count >= 1 && loaded.condition_count <= 8
+    loaded.row_count <= rows
+        && loaded.rule_count <= loaded.rules.len()
+        && (1..=loaded.starts.len()).contains(&loaded.condition_count)
 }
 
 fn starts_in(loaded: &Loaded) -> bool
@@ -104,6 +102,7 @@ fn marked_in(row: &Row, rules: usize) -> bool
 }
 
 // Whether no bit from n on is set.
+#[tactic(auto, using(crate::proofs::Marks::any_marks, crate::proofs::Marks::shifted_out))]
 fn below(marks: u64, n: usize) -> bool
     ensures { MatchBool result (marks < 2 ^ n) (marks < 2 ^ n → ⊥) }
 {
@@ -120,6 +119,7 @@ fn rules_active_in(loaded: &Loaded) -> bool
         .all(|rule| active_in(rule.conditions, loaded.condition_count))
 }
 
+#[tactic(auto, using(crate::proofs::Active::first_active))]
 fn active_in(active: ConditionSet, conditions: usize) -> bool
     ensures { MatchBool result (ActiveIn conditions active.words) (ActiveIn conditions active.words → ⊥) }
 {

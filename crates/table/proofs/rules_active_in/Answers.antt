@@ -10,5 +10,5 @@ use Rattle.table.proofs.rules_active_in.Goals as goal
 pub returns : goal.returns
 returns c =
     let l = c.args.loaded.now in
-    all_of_first (λ (r : Rule). ActiveIn l.condition_count r.conditions.words) _ (none_active l.condition_count) _ _ _ c.all.ensures.ran (λ x q k. search (rules, tests)) (λ x q k. search (rules, tests))
+    all_of_first (λ (r : Rule). ActiveIn l.condition_count r.conditions.words) (none_active l.condition_count) _ c.all.ensures.ran (λ x q k. search (rules, tests)) (λ x q k. search (rules, tests))
     l.rules l.rule_count (YieldsList-from_take l.rule_count (YieldsList-from_slice l.rules (cc)) (cc))

@@ -9,5 +9,5 @@ use Rattle.table.proofs.rules_begin_in.Goals as goal
 pub returns : goal.returns
 returns c =
     let l = c.args.loaded.now in
-    all_of_first (λ (r : Rule). BeginsIn l.condition_count r.steps) _ (search rules) _ _ _ c.all.ensures.ran (λ x q k. search (rules, tests)) (λ x q k. search (rules, tests))
+    all_of_first (λ (r : Rule). BeginsIn l.condition_count r.steps) (search rules) _ c.all.ensures.ran (λ x q k. search (rules, tests)) (λ x q k. search (rules, tests))
     l.rules l.rule_count (YieldsList-from_take l.rule_count (YieldsList-from_slice l.rules (cc)) (cc))

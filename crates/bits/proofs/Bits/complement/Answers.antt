@@ -1,4 +1,4 @@
-use Rattle.std.proofs.Common.{◌≡◌, ℕ, ◌/◌, ◌%◌, not, get_or, ap, ◌∙◌, arith}
+use Rattle.std.proofs.Common.{ℕ, ◌/◌, ◌%◌, not, get_or, ap, ◌∙◌, arith}
 use Rattle.bits.specs.Set.{bit, has}
 use Rattle.bits.proofs.Words.{bit_not, has_by_words}
 use Rattle.bits.proofs.Bits.complement.Goals as goal
