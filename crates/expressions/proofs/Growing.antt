@@ -16,7 +16,7 @@ use Rattle.grammar.specs.Outcome.{Out, refused, then, many}
 use Rattle.grammar.specs.Expressions.{Parsed, parsed, joined_by, repeated_by, repeated_more, bounds_at, extra, repeated, repeated_over}
 use Rattle.tokens.proofs.Follow.{Left, starts, stops, turns_on, fails}
 use Rattle.expressions.specs.declared.Parsed as code
-use Rattle.expressions.specs.Lays.{parsed_as, Lays, Gives, Holds, Steps, Moves}
+use Rattle.expressions.specs.Lays.{parsed_as, Lays, Gives, Holds, Steps}
 use Rattle.expressions.specs.Reads.{JoinsOn, MarksOn, Counted, interval_over}
 use Rattle.expressions.specs.Frames.{Placed, Copies}
 use Rattle.expressions.proofs.Frames.{kept_outside}
@@ -185,8 +185,3 @@ gives_fault {o = o} base w w' p e = subst (λ (r : Result Code Fault). Gives o b
 -- a fault is a fault of all that would go on behind it
 pub then_fault : {X Y : Type 0} {o : Out Y} {first : Out X} {f : Fault} (more : X → Out Y) → o ≡ then first more → first ≡ Err f → o ≡ Err f
 then_fault more e h = e ∙ ap (λ (x : Out _). then x more) h
-
--- what was read from the next byte on was read from this one on
-pub moves_on : (r : Result Code Fault) (at n : ℕ) → Moves r (at + 1) n → Moves r at n
-moves_on (Ok r) at n h = (omega arith, h.1)
-moves_on (Err f) at n h = tt

@@ -1,13 +1,13 @@
 use Rattle.std.proofs.Common.{◌+◌, length, Err, sym, refl, ap, ◌∙◌, arith}
 use Rattle.std.proofs.lemmas.Result.{err_from_is_err_and}
-use Rattle.grammar.specs.Outcome.{Out, then, many}
-use Rattle.grammar.specs.Expressions.{Parsed, inside, marked, repeated_more, piece_by, branch_goes_on, branch_more, branch_by, bar_ahead, alternation_more, closed_group}
+use Rattle.grammar.specs.Outcome.{many}
+use Rattle.grammar.specs.Expressions.{inside, marked, repeated_more, piece_by, branch_goes_on, branch_more, branch_by, bar_ahead, alternation_more, closed_group}
 use Rattle.grammar.specs.declared.Fault.{Fault}
 use Rattle.grammar.specs.Expressions.{repeat_mark}
 use Rattle.expressions.specs.Lays.{parsed_as}
 use Rattle.tokens.proofs.Items.{stands_below, passes_below}
 use Rattle.expressions.proofs.Atoms.{group_is, atom_quote, atom_group, atom_one, piece_is, branch_is, alternation_is, closed_open, closed_shut, extended_joins}
-use Rattle.expressions.proofs.Growing.{Code, grown_start, grown_turn, grown_stop, grown_fails, grown_counted, past_lays, lays_by, joined_steps, choice_steps, marked_steps, gives_by, gives_fault, then_fault, moves_on}
+use Rattle.expressions.proofs.Growing.{Code, grown_start, grown_turn, grown_stop, grown_fails, grown_counted, past_lays, lays_by, joined_steps, choice_steps, marked_steps, gives_by, gives_fault, then_fault}
 use Rattle.expressions.proofs.+alternation_alternative_atom_branch_extended_group_piece.Goals as goal
 
 pub alternation-returns-in_err-all-clause-gives : goal.alternation-returns-in_err-all-clause-gives

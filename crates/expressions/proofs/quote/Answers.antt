@@ -1,7 +1,7 @@
-use Rattle.std.proofs.Common.{not, refl, ap, ◌∙◌, arith}
+use Rattle.std.proofs.Common.{not, refl, ap, arith}
 use Rattle.std.proofs.lemmas.Result.{err_from_is_err_and}
 use Rattle.tokens.proofs.Items.{stands_below}
-use Rattle.grammar.specs.Expressions.{in_quotes, quoted_more, past_quote}
+use Rattle.grammar.specs.Expressions.{past_quote}
 use Rattle.expressions.proofs.Atoms.{quote_is}
 use Rattle.expressions.proofs.Growing.{grown_turn, grown_stop, grown_fails, past_lays, lays_by, gives_fault, then_fault, Code}
 use Rattle.expressions.proofs.quote.Goals as goal
