@@ -2,3 +2,4 @@ pub mod Machine
 pub mod Marks
 pub mod Loaded
 pub mod Sections
+pub mod Shown

@@ -1,8 +1,9 @@
 -- What the functions that read lines and sections say.
-use Rattle.std.specs.Prelude.{◌≡◌, ℕ, suc, ◌+◌, ◌<◌, ◌≤◌, cond, List, [], ◌∷◌, length, Some, None, Ok, Err, Option, Result, slice_set}
+use Rattle.std.specs.Prelude.{◌≡◌, ℕ, suc, ◌+◌, ◌<◌, ◌≤◌, cond, List, [], ◌∷◌, length, replicate, Some, None, Ok, Err, Option, Result, slice_set}
 use Rattle.positions.specs.Memory.{Work}
 use Rattle.grammar.specs.declared.Fault.{Fault}
 use Rattle.grammar.specs.declared.Refusal.TheVariants.{Memory, FileTooLong, Misfit}
+use Rattle.grammar.specs.declared.Read.{Read}
 use Rattle.grammar.specs.declared.Step.{Step}
 use Rattle.grammar.specs.Outcome.{Out, refused}
 use Rattle.grammar.specs.Bytes.{blank, passes, span}
@@ -12,15 +13,15 @@ use Rattle.grammar.specs.Actions.{action_at}
 use Rattle.grammar.specs.File as file
 use Rattle.grammar.specs.File.{RuleText, RuleFile, rule_size, rule_file_of}
 use Rattle.conditions.specs.Known.{known}
+use Rattle.conditions.specs.declared.Conditions as code
 use Rattle.loaded.specs.declared.Loaded.{Loaded}
 use Rattle.loaded.specs.Zeros.{zeros}
 use Rattle.rulefile.specs.declared.RuleRead.{RuleRead}
-use Rattle.rulefile.specs.declared.FirstSection.{FirstSection}
 use Rattle.rulefile.specs.declared.TextLine.{TextLine}
 use Rattle.rulefile.specs.declared.Progress.{Progress}
 use Rattle.rulefile.specs.declared.Counts.{Counts}
 use Rattle.rulefile.specs.Machine.{PatternLaid, RulesLaid, RulesKept}
-use Rattle.rulefile.specs.Loaded.{RuleHolds, RulesHold, Holds}
+use Rattle.rulefile.specs.Loaded.{RuleHolds, RulesHold, trails_of, Holds}
 
 -- blanks, at least one, and the action
 abbrev pub steps_behind : List ℕ → Conditions → ℕ → Out (List Step)
@@ -32,6 +33,7 @@ pub record LineRead (o : Out file.RuleRead) (a i : ℕ) (w w' : Work) (r : RuleR
   pub is : o ≡ Ok (record { rule = rule; used = r.used })
   pub few : i < 64
   pub holds : RuleHolds r.rule rule
+  pub trail : r.rule.trail ≡ 0
   pub counts : r.used ≡ a + rule_size rule
   pub laid : PatternLaid w' rule.expression rule.trailing a i
   pub kept : RulesKept a i w w'
@@ -61,12 +63,12 @@ NextLine file at None = (k : ℕ) → Enough file at k → lines.lines_from k fi
 NextLine file at (Some l) = Next file at l
 
 -- the first section ends before the lines from f.next on
-pub record FirstRead (text : List ℕ) (f : FirstSection) : Type 0 where
+pub record FirstRead (text : List ℕ) (f : Read code.Conditions) : Type 0 where
   pub turns : ℕ
   pub enough : Enough text f.next turns
-  pub is : file.first_section text only_initial (lines.lines text) ≡ Ok (record { conditions = known f.conditions; behind = lines.lines_from turns text f.next })
+  pub is : file.first_section text only_initial (lines.lines text) ≡ Ok (record { conditions = known f.value; behind = lines.lines_from turns text f.next })
 
-abbrev pub FirstGives : List ℕ → Result FirstSection Fault → Type 0
+abbrev pub FirstGives : List ℕ → Result (Read code.Conditions) Fault → Type 0
 FirstGives text (Ok f) = FirstRead text f
 FirstGives text (Err e) = file.first_section text only_initial (lines.lines text) ≡ Err e
 
@@ -79,7 +81,7 @@ pub record SoFar (qs : List RuleText) (w : Work) (l₀ l : Loaded) (p : Progress
   pub room : l₀ ≡ zeros → length l.rules ≡ 64
   pub holds : l₀ ≡ zeros → RulesHold l.rules qs
   pub starts : l.starts ≡ l₀.starts
-  pub trails : l.trails ≡ l₀.trails
+  pub trails : l₀ ≡ zeros → trails_of l ≡ replicate 64 0
   pub row_count : l.row_count ≡ l₀.row_count
 
 -- one more rule, in the place behind those so far
@@ -88,7 +90,6 @@ pub record Added (s : List ℕ) (c : Conditions) (at : ℕ) (done : Progress) (w
   pub line : LineRead (file.rule_line s c done.rules at done.positions) done.positions done.rules w w' read
   pub rules : l'.rules ≡ slice_set l.rules done.rules read.rule
   pub starts : l'.starts ≡ l.starts
-  pub trails : l'.trails ≡ l.trails
   pub row_count : l'.row_count ≡ l.row_count
   pub next : p ≡ record { rules = done.rules + 1; positions = read.used }
 
