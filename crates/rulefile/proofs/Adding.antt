@@ -1,21 +1,23 @@
 -- The second section, as its loop reads rule after rule.
-use Rattle.std.proofs.Common.{◌≡◌, ℕ, suc, ◌+◌, ◌≤◌, Bool, true, false, cond, ◌⊎◌, List, [], ◌∷◌, ◌++◌, length, take, set, replicate, Err, sym, refl, ap, ◌∙◌, subst, inl, inr, arith, length-append, length-set}
+use Rattle.std.proofs.Common.{◌≡◌, ℕ, zero, suc, ◌+◌, ◌≤◌, Bool, true, false, cond, ◌⊎◌, List, [], ◌∷◌, ◌++◌, map, length, take, set, replicate, Err, sym, refl, ap, ◌∙◌, subst, inl, inr, arith, length-append, length-set}
+use Rattle.std.proofs.lemmas.List.{map-set}
 use Rattle.positions.specs.Memory.{Work}
 use Rattle.grammar.specs.declared.Fault.{Fault}
+use Rattle.grammar.specs.declared.Read.{Read}
 use Rattle.grammar.specs.Outcome.{Out, then}
 use Rattle.grammar.specs.Lines.{lines_from, divides}
 use Rattle.grammar.specs.Conditions.{Conditions}
 use Rattle.grammar.specs.File as file
 use Rattle.grammar.specs.File.{RuleText, second_section, rule_line, rule_file, all_positions, sections}
 use Rattle.conditions.specs.Known.{known}
+use Rattle.conditions.specs.declared.Conditions as code
 use Rattle.loaded.specs.declared.Loaded.{Loaded}
 use Rattle.loaded.specs.declared.Rule.{Rule}
 use Rattle.loaded.specs.Zeros.{zeros, no_rule}
-use Rattle.rulefile.specs.declared.FirstSection.{FirstSection}
 use Rattle.rulefile.specs.declared.Progress.{Progress}
 use Rattle.rulefile.specs.declared.TextLine.{TextLine}
 use Rattle.rulefile.specs.Machine.{RulesKept, PatternLaid}
-use Rattle.rulefile.specs.Loaded.{RulesHold}
+use Rattle.rulefile.specs.Loaded.{RulesHold, trails_of}
 use Rattle.rulefile.specs.Sections.{Enough, line_of, Next, FirstRead, SoFar, Added, Gone, FileRead}
 use Rattle.rulefile.proofs.Rules.{laid_more, size_more, holds_more}
 
@@ -33,13 +35,22 @@ zero_rules l e =
     let n : length l.rules ≡ 64 = ap length r in
     (n, r ∙ ap (λ (m : ℕ). replicate m no_rule) (sym n))
 
+zero_trails : (l : Loaded) → l ≡ zeros → trails_of l ≡ replicate 64 0
+unfolding zeros no_rule
+zero_trails l e = ap trails_of e
+
 pub adding_start : (text : List ℕ) (from : ℕ) (c : Conditions) (w : Work) (l : Loaded) → Adding text from c w l l (record { rules = 0; positions = 0 }) from
 adding_start text from c w l = record {
   rules = [];
   few = inl (omega arith);
-  so_far = record { count = refl; few = omega arith; used = refl; laid = tt; room = λ e. (zero_rules l e).0; holds = λ e. (zero_rules l e).1; starts = refl; trails = refl; row_count = refl };
+  so_far = record { count = refl; few = omega arith; used = refl; laid = tt; room = λ e. (zero_rules l e).0; holds = λ e. (zero_rules l e).1; starts = refl; trails = zero_trails l; row_count = refl };
   left = λ k e. (k, e, refl);
 }
+
+set_zero : (n i : ℕ) → set (replicate n 0) i 0 ≡ replicate n 0
+set_zero zero i = refl
+set_zero (suc n) zero = refl
+set_zero (suc n) (suc i) = ap (λ (xs : List ℕ). 0 ∷ xs) (set_zero n i)
 
 -- the rules qs and one more
 more : (qs : List RuleText) (w w' : Work) (l₀ l l' : Loaded) (p p' : Progress) (s : List ℕ) (c : Conditions) (at : ℕ) → SoFar qs w l₀ l p → (a : Added s c at p w w' l l' p')
@@ -66,7 +77,7 @@ more qs w w' l₀ l l' p p' s c at f a =
       holds = λ e. subst (λ (rs : List Rule). RulesHold rs (qs ++ (q ∷ []))) (sym rules-is)
           (holds_more l.rules qs a.read.rule q (f.holds e) (omega (arith, f.room e, a.line.few, i)) a.line.holds);
       starts = a.starts ∙ f.starts;
-      trails = a.trails ∙ f.trails;
+      trails = λ e. ap (map (λ (r : Rule). r.trail)) rules-is ∙ map-set (λ (r : Rule). r.trail) l.rules (length qs) a.read.rule ∙ rw (f.trails e, a.line.trail) (set_zero 64 (length qs));
       row_count = a.row_count ∙ f.row_count;
     }
 
@@ -125,22 +136,22 @@ unfolding zeros
 zero_rows l e = ap (λ (x : Loaded). x.row_count) e
 
 -- both sections are the file, in loaded memory that was zeros
-pub file_reads : (text : List ℕ) (f : FirstSection) (w : Work) (l₀ l : Loaded) (p : Progress) (n : ℕ)
-    → FirstRead text f → Gone text f.next (known f.conditions) w l₀ l p → n ≡ length (known f.conditions).names → l₀ ≡ zeros
+pub file_reads : (text : List ℕ) (f : Read code.Conditions) (w : Work) (l₀ l : Loaded) (p : Progress) (n : ℕ)
+    → FirstRead text f → Gone text f.next (known f.value) w l₀ l p → n ≡ length (known f.value).names → l₀ ≡ zeros
     → FileRead (sections text) w
-    (record { rules = l.rules; starts = l.starts; trails = l.trails; rule_count = p.rules; condition_count = n; row_count = l.row_count })
+    (record { rules = l.rules; starts = l.starts; rule_count = p.rules; condition_count = n; row_count = l.row_count })
     (record { rules = p.rules; conditions = n; positions = p.positions })
 file_reads text f w l₀ l p n r g n-is e =
     let so = g.so_far in
     record {
-      file = record { conditions = known f.conditions; rules = g.rules; used = p.positions };
+      file = record { conditions = known f.value; rules = g.rules; used = p.positions };
       is = ap (λ (o : Out file.FirstSection). then o (λ x. second_section text x.conditions [] 0 x.behind)) r.is ∙ g.is r.turns r.enough;
       holds = record {
         rules = so.holds e;
         rule_count = so.count;
         condition_count = n-is;
         starts = so.starts ∙ ap (λ (x : Loaded). x.starts) e;
-        trails = so.trails ∙ ap (λ (x : Loaded). x.trails) e;
+        trails = so.trails e;
         row_count = so.row_count ∙ zero_rows l₀ e;
       };
       laid = so.laid;

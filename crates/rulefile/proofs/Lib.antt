@@ -1,3 +1,4 @@
+pub mod Sets
 pub mod Joins
 pub mod Trails
 pub mod Reading

@@ -12,19 +12,6 @@ use Rattle.tokens.proofs.Items.{passes_below, span_each, line_next, line_within,
 use Rattle.rulefile.specs.declared.TextLine.{TextLine}
 use Rattle.rulefile.specs.Sections.{Enough, line_of, Next}
 
--- no byte in a row passes, so the first does not
-pub span_none : (t : ℕ → Bool) (s : List ℕ) (n : ℕ) → span t (length s) s n ≡ 0 → passes t s n ≡ false
-unfolding span
-span_none t s n h = go (length s) (passes t s n) refl h (λ y. passes_below t s n (sym y))
-  where
-    go : (k : ℕ) (b : Bool) → passes t s n ≡ b → span t k s n ≡ 0 → (b ≡ true → n < k) → b ≡ false
-    go k false e z f = refl
-    go zero true e z f = absurd (omega (arith, f refl))
-    go (suc k) true e z f = let y : cond (passes t s n) (suc (span t k s (suc n))) 0 ≡ suc (span t k s (suc n)) = rw e in absurd (omega arith)
-
-pub span_some : (t : ℕ → Bool) (s : List ℕ) (k n : ℕ) → 0 < span t k s n → passes t s n ≡ true
-span_some t s k n h = let z : n + 0 ≡ n = omega arith in subst (λ (m : ℕ). passes t s m ≡ true) z (span_each t s k n 0 h)
-
 -- the lines from `at` on are those from `start` on
 pub record Same (file : List ℕ) (at start : ℕ) : Type 0 where
   pub from : at ≤ start
@@ -97,10 +84,6 @@ module _ (file : List ℕ) (at start end next : ℕ) (s : Same file at start) (h
 
   pub told_moves : start < next
   told_moves = omega (arith, plain, line_next file start)
-
--- the part of a file up to a line's end, as the code cuts it out
-pub cut : (file : List ℕ) (n : ℕ) → take (n - 0) (drop 0 file) ≡ take n file
-cut file n = let z : n - 0 ≡ n = omega arith in rw z
 
 -- declarations that are read up to `next`
 pub record Declaring (text : List ℕ) (c : Conditions) (next : ℕ) : Type 0 where

@@ -1,7 +1,8 @@
 // Rule files: read whole into lent memory, or turned down with a number and a place.
 #![tactic(auto)]
 
-ghost use Rattle.std.specs.Prelude.{◌≡◌, ℕ, ◌+◌, ◌<◌, ◌≤◌, false, length, if◌then◌else◌, Some, None, IfOk, IfSome};
+ghost use Rattle.std.specs.Prelude.{◌≡◌, ℕ, ◌+◌, ◌<◌, ◌≤◌, false, ◌&&◌, ◌||◌, length, if◌then◌else◌, Some, None, IfOk, IfSome};
+ghost use Rattle.bits.specs.Set.{has};
 ghost use Rattle.patterns.specs.Expression.{Expression};
 ghost use Rattle.positions.specs.Memory.{member};
 ghost use Rattle.expressions.specs.Frames.{Outside};
@@ -24,7 +25,7 @@ use conditions::Conditions;
 use expressions::{Parsed, expression, starts_atom};
 use grammar::{Fault, Read, Refusal, misfit, refused};
 use loaded::{Loaded, Rule};
-use positions::{POSITIONS, leaf, link};
+use positions::{Fragment, POSITIONS, leaf, link};
 use std::fmt;
 use tokens::{Kind, line_at, passes, span, stands};
 
@@ -55,6 +56,7 @@ pub struct Counts {
 }
 
 // The four sets that a rule has in the work memory beside those of its positions.
+#[derive(Clone, Copy)]
 struct RuleSets {
     firsts: PositionSet,
     trail: PositionSet,
@@ -164,6 +166,17 @@ fn without_trailing(work: &mut [PositionSet; WORK_SETS], k: usize, end: usize, r
     keep(work, k, &sets);
 }
 
+// Where x may begin, and where what may be empty may end.
+fn trail_start(x: &Fragment, ends: &PositionSet) -> PositionSet
+    ensures { (q : ℕ) → has result.words q ≡ (has x.now.first.words q || (x.now.nullable && has ends.now.words q)) }
+{
+    if x.nullable {
+        x.first.either(ends)
+    } else {
+        x.first
+    }
+}
+
 // Behind the last positions of r come the slash mark and the trail start, and behind those of x the end mark.
 fn with_trailing(work: &mut [PositionSet; WORK_SETS], k: usize, end: usize, r: &Parsed, x: &Parsed)
     requires { (k < 64) × (end < 512) }
@@ -171,11 +184,7 @@ fn with_trailing(work: &mut [PositionSet; WORK_SETS], k: usize, end: usize, r: &
 {
     let ends = Bits::only(end);
     let slashes = Bits::only(r.used);
-    let trail = if x.part.nullable {
-        x.part.first.either(&ends)
-    } else {
-        x.part.first
-    };
+    let trail = trail_start(&x.part, &ends);
     link(work, &r.part.last, &trail.either(&slashes));
     link(work, &x.part.last, &ends);
     let sets = RuleSets {
@@ -197,7 +206,7 @@ fn trailing(
     ensures moves { IfOk result (λ t. IfSome t (λ x. (r.now.at < x.at) × (x.at ≤ length s.now))) }
 {
     if stands(s, r.at, b'$') {
-        if r.used + 1 >= POSITIONS {
+        if r.used >= POSITIONS - 1 {
             return Err(refused(Refusal::LimitPassed, r.at));
         }
         return Ok(Some(marked_newline(work, r.at + 1, r.used)));
@@ -279,13 +288,14 @@ fn rule_body(
 {
     let anchored = stands(s, active.next, b'^');
     let pattern = pattern_at(s, past_anchor(s, active.next), done, work)?;
-    let steps = steps_behind(s, pattern.next, conditions)?;
+    let action = steps_behind(s, pattern.next, conditions)?;
+    let steps = action.list;
     Ok(RuleRead {
         rule: Rule {
             conditions: active.value,
             anchored,
             trail: 0,
-            steps: steps.list,
+            steps,
         },
         used: pattern.value,
     })
@@ -316,7 +326,7 @@ fn divides(file: &[u8], line: &TextLine) -> bool
     ensures { result ≡ divides_at file.now (line_of line.now) }
 {
     file.get(line.start..line.end)
-        .is_some_and(|text| text == b"%%")
+        .is_some_and(|text| text == b"%%".as_slice())
 }
 
 // The first line from `at` on that is not empty.
