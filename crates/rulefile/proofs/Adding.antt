@@ -47,7 +47,7 @@ adding_start text from c w l = record {
   left = λ k e. (k, e, refl);
 }
 
-set_zero : (n i : ℕ) → set (replicate n 0) i 0 ≡ replicate n 0
+set_zero : (n i : ℕ) → set {A = ℕ} (replicate n 0) i 0 ≡ replicate n 0
 set_zero zero i = refl
 set_zero (suc n) zero = refl
 set_zero (suc n) (suc i) = ap (λ (xs : List ℕ). 0 ∷ xs) (set_zero n i)

@@ -228,11 +228,12 @@ module _ (s : List ℕ) (n a k : ℕ) (w u v w' : Work) (r : Parsed) (m : Marked
   is_trailed : pattern_at s n (a + 1) ≡ trailing_at s (parsed_as r m.tree)
   is_trailed = ap (λ (o : Out grammar.Parsed). then o (trailing_at s)) m.is
 
-  pub read_alone : TrailingGives (trailing_at s (parsed_as r m.tree)) m.tree r u v (Ok None)
+  pub read_alone : (o : Option Parsed) → o ≡ None → TrailingGives (trailing_at s (parsed_as r m.tree)) m.tree r u v (Ok o)
       → ((e : Expression) → Unjoined v a e r → Joined a k v w' e None)
       → PatternRead (pattern_at s n (a + 1)) a k w w' (record { value = r.used; next = r.at })
-  read_alone t join =
+  read_alone o none gives join =
       let c = m.unjoined.counts in
+      let t = subst (λ (z : Option Parsed). TrailingGives (trailing_at s (parsed_as r m.tree)) m.tree r u v (Ok z)) none gives in
       let j = join m.tree (subst (λ (z : Work). Unjoined z a m.tree r) (sym t.1) m.unjoined) in
       record {
         pattern = record { expression = m.tree; trailing = None; at = r.at; used = r.used };
@@ -243,11 +244,12 @@ module _ (s : List ℕ) (n a k : ℕ) (w u v w' : Work) (r : Parsed) (m : Marked
         joined = joined_kept m.kept (subst (λ (z : Work). Joined a k z w' m.tree None) t.1 j);
       }
 
-  pub read_trailing : (x : Parsed) (t : TrailingRead (trailing_at s (parsed_as r m.tree)) m.tree r u v x)
+  pub read_trailing : (o : Option Parsed) (x : Parsed) → o ≡ Some x → TrailingGives (trailing_at s (parsed_as r m.tree)) m.tree r u v (Ok o)
       → ((e g : Expression) → Unjoined v a e r → Unjoined v r.used g x → Joined a k v w' e (Some g))
       → PatternRead (pattern_at s n (a + 1)) a k w w' (record { value = x.used; next = x.at })
-  read_trailing x t join =
+  read_trailing o x some gives join =
       let c = m.unjoined.counts in
+      let t = subst (λ (z : Option Parsed). TrailingGives (trailing_at s (parsed_as r m.tree)) m.tree r u v (Ok z)) some gives in
       let d = t.unjoined.counts in
       record {
         pattern = record { expression = m.tree; trailing = Some t.tree; at = x.at; used = x.used };

@@ -4,3 +4,4 @@ pub mod Trails
 pub mod Reading
 pub mod Rules
 pub mod Adding
+pub mod Whole

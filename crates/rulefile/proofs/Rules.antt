@@ -90,6 +90,13 @@ pattern_kept w w' a i b j q l k h lt = record {
   slashes = λ n. k.slashes i n lt ∙ l.slashes n;
 }
 
+-- all of them, in memory that goes on past them
+pub laid_kept : (w w' : Work) (i a : ℕ) (qs : List RuleText) → RulesLaid w i a qs → RulesKept 512 64 w w' → i + length qs ≤ 64 → RulesLaid w' i a qs
+laid_kept w w' i a [] l k h = tt
+laid_kept w w' i a (q ∷ qs) l k h =
+    let top = l.0.within in
+    (pattern_kept w w' a i 512 64 q l.0 k (omega arith) (omega arith), laid_kept w w' (suc i) (a + rule_size q) qs l.1 k (omega arith))
+
 -- and one more is laid down behind them
 pub laid_more : (w w' : Work) (i a : ℕ) (qs : List RuleText) (q : RuleText) → RulesLaid w i a qs → RulesKept (a + all_positions qs) (i + length qs) w w'
     → PatternLaid w' q.expression q.trailing (a + all_positions qs) (i + length qs) → RulesLaid w' i a (qs ++ (q ∷ []))
@@ -115,3 +122,9 @@ holds_more [] [] r q h lt k = absurd (omega arith)
 holds_more (x ∷ rs) [] r q h lt k = (k, (cc))
 holds_more [] (y ∷ qs) r q h lt k = absurd h
 holds_more (x ∷ rs) (y ∷ qs) r q h lt k = (h.0, holds_more rs qs r q h.1 (omega arith) k)
+
+pub held_few : (rs : List Rule) (qs : List RuleText) → RulesHold rs qs → length qs ≤ length rs
+held_few [] [] h = omega arith
+held_few (r ∷ rs) [] h = omega arith
+held_few [] (q ∷ qs) h = absurd h
+held_few (r ∷ rs) (q ∷ qs) h = omega (arith, held_few rs qs h.1)

@@ -428,7 +428,8 @@ fn sections(
     work: &mut [PositionSet; WORK_SETS],
 ) -> Result<Counts, Fault>
     requires { length file.now ≤ 8192 }
-    ensures { loaded.old ≡ zeros_of → FileReads file.now work.new loaded.new result }
+    ensures whole { length work.new ≡ 4096 }
+    ensures reads { loaded.old ≡ zeros_of → FileReads file.now work.new loaded.new result }
 {
     let first = first_section(file)?;
     let done = second_section(file, first.next, &first.value, loaded, work)?;
