@@ -1,4 +1,5 @@
 pub mod Machine
+pub mod Lines
 pub mod Marks
 pub mod Loaded
 pub mod Sections

@@ -12,22 +12,24 @@ ghost use Rattle.actions.specs.Steps.{does};
 ghost use Rattle.loaded.specs.Zeros.{zeros as zeros_of};
 ghost use Rattle.grammar.specs.Outcome.{Moves};
 ghost use Rattle.grammar.specs.Bytes.{stands as stands_at};
-ghost use Rattle.grammar.specs.Lines.{divides as divides_at};
 ghost use Rattle.grammar.specs.Expressions.{alternation_at};
 ghost use Rattle.grammar.specs.File.{newline as newline_of, trailing_at, pattern_at, starts_rule, behind_active, rule_line};
 ghost use Rattle.rulefile.specs.Marks.{Unjoined, MarkedGives, Keeps, Joined, TrailingGives, PatternGives};
-ghost use Rattle.rulefile.specs.Sections.{steps_behind, LineGives, NextLine, line_of, FirstGives, Adds, Goes, FileReads, Answers};
+ghost use Rattle.rulefile.specs.Sections.{steps_behind, LineGives, FirstGives, Adds, Goes, FileReads, Answers};
 ghost use Rattle.rulefile.specs.Shown.{shown};
+
+mod lines;
 
 use actions::{Steps, action};
 use bits::{Bits, ConditionSet, PositionSet};
 use conditions::Conditions;
 use expressions::{Parsed, expression, starts_atom};
 use grammar::{Fault, Read, Refusal, misfit, refused};
+use lines::{TextLine, TextLines};
 use loaded::{Loaded, Rule};
 use positions::{Fragment, POSITIONS, leaf, link};
 use std::fmt;
-use tokens::{Kind, line_at, passes, span, stands};
+use tokens::{Kind, passes, span, stands};
 
 // The most bytes that a rule file may have, and the most rules.
 pub const FILE_BYTES: usize = 8192;
@@ -69,14 +71,6 @@ struct RuleSets {
 struct RuleRead {
     rule: Rule,
     used: usize,
-}
-
-// A line that is not empty, without its trailing blanks, and where the next one starts.
-#[derive(Clone, Copy)]
-struct TextLine {
-    start: usize,
-    end: usize,
-    next: usize,
 }
 
 // How many rules are read so far, and how many positions they use.
@@ -301,16 +295,17 @@ fn rule_body(
     })
 }
 
-// The rule line that starts at `at`, behind the rules that are done.
+// The rule line, behind the rules that are done.
 fn rule_line(
-    s: &[u8],
-    at: usize,
+    line: &TextLine,
     conditions: &Conditions,
     done: Progress,
     work: &mut [PositionSet; WORK_SETS],
 ) -> Result<RuleRead, Fault>
-    ensures { LineGives (rule_line s.now (known conditions.now) done.rules at done.positions) done.positions done.rules work.old work.new result }
+    ensures { LineGives (rule_line line.now.text.now (known conditions.now) done.rules line.now.start done.positions) done.positions done.rules work.old work.new result }
 {
+    let s = line.text;
+    let at = line.start;
     if at >= s.len() || !starts_rule(s[at]) {
         return Err(misfit(at));
     }
@@ -321,66 +316,32 @@ fn rule_line(
     rule_body(s, &active, conditions, done, work)
 }
 
-// Whether the line is `%%`.
-fn divides(file: &[u8], line: &TextLine) -> bool
-    ensures { result ≡ divides_at file.now (line_of line.now) }
-{
-    file.get(line.start..line.end)
-        .is_some_and(|text| text == b"%%".as_slice())
-}
-
-// The first line from `at` on that is not empty.
-fn next_line(file: &[u8], at: usize) -> Option<TextLine>
-    requires { length file.now ≤ 8192 }
-    ensures { NextLine file.now at result }
-{
-    let mut start = at;
-    while start < file.len() {
-        let line = line_at(file, start);
-        if start < line.end {
-            return Some(TextLine {
-                start,
-                end: line.end,
-                next: line.next,
-            });
-        }
-        start = line.next;
-    }
-    None
-}
-
-// Declarations up to a line `%%`, behind which the second section begins.
-fn first_section(file: &[u8]) -> Result<Read<Conditions>, Fault>
-    requires { length file.now ≤ 8192 }
-    ensures { FirstGives file.now result }
+// Declarations up to a line `%%`; the lines behind it are left.
+fn first_section(lines: &mut TextLines) -> Result<Conditions, Fault>
+    ensures { FirstGives lines.old lines.new result }
 {
     let mut conditions = Conditions::initial();
-    let mut next = 0;
-    while let Some(line) = next_line(file, next) {
-        if divides(file, &line) {
-            return Ok(Read {
-                value: conditions,
-                next: line.next,
-            });
+    // No `for`: tried over `lines.by_ref()`, of which a proof knows nothing that is left behind it.
+    while let Some(line) = lines.next() {
+        if line.divides() {
+            return Ok(conditions);
         }
-        conditions = conditions.declaration(&file[..line.end], line.start)?;
-        next = line.next;
+        conditions = conditions.declaration(line.text, line.start)?;
     }
-    Err(misfit(file.len()))
+    Err(misfit(lines.file.len()))
 }
 
 // Reads one more rule into the loaded memory.
 fn add_rule(
-    s: &[u8],
-    at: usize,
+    line: &TextLine,
     conditions: &Conditions,
     done: Progress,
     loaded: &mut Loaded,
     work: &mut [PositionSet; WORK_SETS],
 ) -> Result<Progress, Fault>
-    ensures { Adds s.now (known conditions.now) at done work.old work.new loaded.old loaded.new result }
+    ensures { Adds line.now.text.now (known conditions.now) line.now.start done work.old work.new loaded.old loaded.new result }
 {
-    let read = rule_line(s, at, conditions, done, work)?;
+    let read = rule_line(line, conditions, done, work)?;
     loaded.rules[done.rules] = read.rule;
     Ok(Progress {
         rules: done.rules + 1,
@@ -388,35 +349,24 @@ fn add_rule(
     })
 }
 
-// Rules up to a line `%%` or the file's end.
+// Rules up to a line `%%` or the last line.
 fn second_section(
-    file: &[u8],
-    from: usize,
+    lines: TextLines,
     conditions: &Conditions,
     loaded: &mut Loaded,
     work: &mut [PositionSet; WORK_SETS],
 ) -> Result<Progress, Fault>
-    requires { length file.now ≤ 8192 }
-    ensures { Goes file.now from (known conditions.now) work.new loaded.old loaded.new result }
+    ensures { Goes lines.entry (known conditions.now) work.new loaded.old loaded.new result }
 {
     let mut done = Progress {
         rules: 0,
         positions: 0,
     };
-    let mut next = from;
-    while let Some(line) = next_line(file, next) {
-        if divides(file, &line) {
+    for line in lines {
+        if line.divides() {
             return Ok(done);
         }
-        done = add_rule(
-            &file[..line.end],
-            line.start,
-            conditions,
-            done,
-            loaded,
-            work,
-        )?;
-        next = line.next;
+        done = add_rule(&line, conditions, done, loaded, work)?;
     }
     Ok(done)
 }
@@ -431,14 +381,15 @@ fn sections(
     ensures whole { length work.new ≡ 4096 }
     ensures reads { loaded.old ≡ zeros_of → FileReads file.now work.new loaded.new result }
 {
-    let first = first_section(file)?;
-    let done = second_section(file, first.next, &first.value, loaded, work)?;
-    let conditions = first.value.number();
+    let mut lines = TextLines::of(file);
+    let conditions = first_section(&mut lines)?;
+    let done = second_section(lines, &conditions, loaded, work)?;
+    let count = conditions.number();
     loaded.rule_count = done.rules;
-    loaded.condition_count = conditions;
+    loaded.condition_count = count;
     Ok(Counts {
         rules: done.rules,
-        conditions,
+        conditions: count,
         positions: done.positions,
     })
 }
