@@ -1,4 +1,3 @@
-pub mod Pushed
-pub mod Moves
-pub mod Read
+pub mod Added
 pub mod Parts
+pub mod Read

@@ -1,9 +1,7 @@
 -- How the loop over steps follows the grammar.
-use Rattle.std.proofs.Common.{◌≡◌, ℕ, ◌<◌, ◌≤◌, false, List, [], length, Ok, Err, sym, ap, ◌∙◌}
+use Rattle.std.proofs.Common.{◌≡◌, ℕ, ◌<◌, ◌≤◌, false, List, length, Ok, Err, sym, ap, ◌∙◌}
 use Rattle.std.proofs.lemmas.Bool.{lt-ltb, le-ltb}
 use Rattle.grammar.specs.declared.Fault.{Fault}
-use Rattle.grammar.specs.declared.Stage.TheVariants.{Writing}
-use Rattle.grammar.specs.declared.Step.{Step}
 use Rattle.grammar.specs.Outcome.{Out, then, many}
 use Rattle.grammar.specs.Bytes.{stands}
 use Rattle.grammar.specs.Conditions.{Conditions}
@@ -18,24 +16,25 @@ module _ (s : List ℕ) (c : Conditions) (n : ℕ) where
   unfoldable pub Reads : Action → Type 0
   Reads a = Loop (action_goes_on s) (step_more s c) place (length s) (step_more s c (no_steps n)) a
 
-  -- the code starts from no steps
-  first_is : (xs : List Step) (o : Out Action) → xs ≡ [] → o ≡ step_more s c (record { steps = xs; stage = Writing; next = n }) → o ≡ step_more s c (no_steps n)
-  first_is xs o z e = e ∙ ap (λ (ys : List Step). step_more s c (record { steps = ys; stage = Writing; next = n })) z
-
-  pub reads_first : (xs : List Step) (a : Action) → xs ≡ [] → Ok a ≡ step_more s c (record { steps = xs; stage = Writing; next = n }) → Reads a
-  unfolding Reads
-  reads_first xs a z e = loop_starts _ _ _ _ _ a (first_is xs (Ok a) z e)
-
   pub reads_on : (a b : Action) → Reads a → a.next < length s → Ok b ≡ step_more s c a → a.next < b.next → Reads b
   unfolding Reads
   reads_on a b l lt r up = loop_turns _ _ _ _ _ a b l (sym (lt-ltb _ _ lt)) r lt up
+
+  -- the code starts from no steps
+  module _ (start : Action) (none : start ≡ no_steps n) where
+    first_is : (o : Out Action) → o ≡ step_more s c start → o ≡ step_more s c (no_steps n)
+    first_is o e = e ∙ ap (step_more s c) none
+
+    pub reads_first : (a : Action) → Ok a ≡ step_more s c start → Reads a
+    unfolding Reads
+    reads_first a e = loop_starts _ _ _ _ _ a (first_is (Ok a) e)
 
   module _ (plain : false ≡ stands s n 59) where
     steps_of_read : (o : Out Action) → o ≡ whole (action_goes_on s) (step_more s c) place (length s) (step_more s c (no_steps n)) → then o steps_of ≡ action_at s c n
     steps_of_read o e = rw (sym plain) (ap (λ (o : Out Action). then o steps_of) e)
 
-    pub reads_refuses : (xs : List Step) (x : Fault) → xs ≡ [] → Err x ≡ step_more s c (record { steps = xs; stage = Writing; next = n }) → Err x ≡ action_at s c n
-    reads_refuses xs x z e = steps_of_read (Err x) (ap (λ (o : Out Action). then o (many (action_goes_on s) (step_more s c) (length s))) (first_is xs (Err x) z e))
+    pub reads_refuses : (start : Action) (x : Fault) → start ≡ no_steps n → Err x ≡ step_more s c start → Err x ≡ action_at s c n
+    reads_refuses start x none e = steps_of_read (Err x) (ap (λ (o : Out Action). then o (many (action_goes_on s) (step_more s c) (length s))) (first_is start none (Err x) e))
 
     pub reads_fails : (a : Action) (x : Fault) → Reads a → a.next < length s → Err x ≡ step_more s c a → Err x ≡ action_at s c n
     unfolding Reads

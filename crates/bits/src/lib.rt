@@ -1,11 +1,11 @@
 // Sets of small numbers, in words.
 #![tactic(auto)]
 
-ghost use Rattle.std.specs.Prelude.{◌≡◌, ℕ, ◌+◌, ◌-◌, ◌*◌, ◌/◌, ◌<◌, true, false, not, ◌&&◌, ◌||◌, length, replicate, Decides, ◌==◌, nat_le, nat_lt};
+ghost use Rattle.std.specs.Prelude.{◌≡◌, ℕ, ◌+◌, ◌-◌, ◌*◌, ◌/◌, ◌<◌, ◌≤◌, true, false, not, ◌&&◌, ◌||◌, length, replicate, Decides, ◌==◌, nat_le, nat_lt};
 ghost use Rattle.bits.specs.Set.{bit, has, First, FirstBit, Whole, MembersDecide};
 
 // A set of numbers below 64 * W, in W words: k is in it where bit k % 64 of word k / 64 is set.
-#[derive(Clone, Copy)]
+#[derive(Clone, Copy, PartialEq, Eq)]
 pub struct Bits<const W: usize> {
     words: [u64; W],
 }
@@ -24,22 +24,20 @@ impl<const W: usize> Bits<W> {
         Bits { words: [0; W] }
     }
 
-    // The number of words: W, as the type says.
-    fn width(&self) -> usize
-        ensures { (result ≡ W) × (length self.now.words ≡ W) }
+    // k alone; a number past the end is left out.
+    pub fn only(k: usize) -> Self
+        ensures { (j : ℕ) → has result.words j ≡ (j == k && nat_lt (k / 64) W) }
     {
-        let words: &[u64] = &self.words;
-        words.len()
+        let mut one = Bits::empty();
+        one.insert(k);
+        one
     }
 
     // Whether k is a member; no number past the end is.
     pub fn has(&self, k: usize) -> bool
         ensures { result ≡ has self.now.words k }
     {
-        if k / 64 >= self.width() {
-            return false;
-        }
-        (self.words[k / 64] >> (k % 64)) % 2 == 1
+        k / 64 < W && (self.words[k / 64] >> (k % 64)) % 2 == 1
     }
 
     // Puts k in; a number past the end is left out.
@@ -47,8 +45,7 @@ impl<const W: usize> Bits<W> {
         ensures { (j : ℕ) → has self.new.words j ≡ (has self.old.words j || (j == k && nat_lt (k / 64) W)) }
     {
         if k / 64 < W {
-            let w = self.words[k / 64];
-            self.words[k / 64] = w | 1 << (k % 64);
+            self.words[k / 64] |= 1 << (k % 64);
         }
     }
 
@@ -56,9 +53,19 @@ impl<const W: usize> Bits<W> {
     pub fn add_all(&mut self, other: &Self)
         ensures { (j : ℕ) → has self.new.words j ≡ (has self.old.words j || has other.now.words j) }
     {
-        for i in 0..other.width() {
-            self.words[i] |= other.words[i];
+        *self = self.either(other);
+    }
+
+    // The members below 64 * V.
+    pub fn resized<const V: usize>(&self) -> Bits<V>
+        ensures members { (j : ℕ) → has result.words j ≡ (nat_lt (j / 64) V && has self.now.words j) }
+        ensures same { W ≤ V → (j : ℕ) → has result.words j ≡ has self.now.words j }
+    {
+        let mut out = Bits::empty();
+        for (i, w) in out.words.iter_mut().enumerate() {
+            *w = self.words.get(i).copied().unwrap_or(0);
         }
+        out
     }
 
     // Each member moved up by `by`; what would pass the end is left out.
@@ -66,8 +73,8 @@ impl<const W: usize> Bits<W> {
         ensures { (j : ℕ) → has result.words j ≡ (nat_lt (j / 64) W && (nat_le by j && has self.now.words (j - by))) }
     {
         let mut out = Bits::empty();
-        for i in 0..W {
-            out.words[i] = self.moved(by, i);
+        for (i, w) in out.words.iter_mut().enumerate() {
+            *w = self.moved(by, i);
         }
         out
     }
@@ -94,8 +101,8 @@ impl<const W: usize> Bits<W> {
         ensures { (j : ℕ) → has result.words j ≡ (nat_lt (j / 64) W && not (has self.now.words j)) }
     {
         let mut out = Bits::empty();
-        for i in 0..W {
-            out.words[i] = !self.words[i];
+        for (i, w) in out.words.iter_mut().enumerate() {
+            *w = !self.words[i];
         }
         out
     }
@@ -108,35 +115,36 @@ impl<const W: usize> Bits<W> {
     }
 
     // The members of either set.
-    pub fn either(self, other: &Self) -> Self
-        ensures members { (j : ℕ) → has result.words j ≡ (has self.entry.words j || has other.now.words j) }
+    pub fn either(&self, other: &Self) -> Self
+        ensures members { (j : ℕ) → has result.words j ≡ (has self.now.words j || has other.now.words j) }
         ensures whole { Whole W result.words }
     {
-        let mut out = self;
-        for i in 0..other.width() {
-            out.words[i] |= other.words[i];
+        let mut all = Bits::empty();
+        for (i, w) in all.words.iter_mut().enumerate() {
+            *w = self.words[i] | other.words[i];
         }
-        out
+        all
     }
 
     // The members that both sets have.
-    pub fn common(self, other: &Self) -> Self
-        ensures members { (j : ℕ) → has result.words j ≡ (has self.entry.words j && has other.now.words j) }
+    pub fn common(&self, other: &Self) -> Self
+        ensures members { (j : ℕ) → has result.words j ≡ (has self.now.words j && has other.now.words j) }
         ensures whole { Whole W result.words }
     {
-        let mut out = self;
-        for i in 0..W {
-            out.words[i] &= other.words[i];
+        let mut both = Bits::empty();
+        for (i, w) in both.words.iter_mut().enumerate() {
+            *w = self.words[i] & other.words[i];
         }
-        out
+        both
     }
 
     // Whether there is no member.
-    pub fn is_empty(self) -> bool
-        ensures { (result ≡ true → (j : ℕ) → has self.entry.words j ≡ false) × (result ≡ false → (j : ℕ) × (has self.entry.words j ≡ true)) }
+    pub fn is_empty(&self) -> bool
+        ensures { (result ≡ true → (j : ℕ) → has self.now.words j ≡ false) × (result ≡ false → (j : ℕ) × (has self.now.words j ≡ true)) }
     {
-        for i in 0..W {
-            if self.words[i] != 0 {
+        // No `all`: its contract doesn't say that each word fits in 64 bits, and a bit past them is no member.
+        for w in self.words.iter() {
+            if *w != 0 {
                 return false;
             }
         }
@@ -144,20 +152,15 @@ impl<const W: usize> Bits<W> {
     }
 
     // Whether some number is in both.
-    pub fn meets(self, other: Self) -> bool
-        ensures { (result ≡ true → (j : ℕ) × (has self.entry.words j ≡ true) × (has other.entry.words j ≡ true)) × (result ≡ false → (j : ℕ) → (has self.entry.words j && has other.entry.words j) ≡ false) }
+    pub fn meets(&self, other: &Self) -> bool
+        ensures { (result ≡ true → (j : ℕ) × (has self.now.words j ≡ true) × (has other.now.words j ≡ true)) × (result ≡ false → (j : ℕ) → (has self.now.words j && has other.now.words j) ≡ false) }
     {
-        for i in 0..W {
-            if self.words[i] & other.words[i] != 0 {
-                return true;
-            }
-        }
-        false
+        !self.common(other).is_empty()
     }
 
     // The first member from `from` on, a word at a time. A member from word 2 ^ 58 on is no usize.
-    pub fn next(self, from: usize) -> Option<usize>
-        ensures { First W self.entry.words from result }
+    pub fn next(&self, from: usize) -> Option<usize>
+        ensures { First W self.now.words from result }
     {
         let end = W.min(1 << 58);
         let mut low = from % 64;
@@ -184,8 +187,6 @@ fn first_bit(w: u64, low: usize) -> Option<usize>
 }
 
 // Theorem: sets of as many words that have the same members have the same words.
-pub fn sets_are_their_members() -> u8
+pub fn sets_are_their_members()
     ensures { MembersDecide }
-{
-    0
-}
+{}

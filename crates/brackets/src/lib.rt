@@ -1,7 +1,7 @@
 // Escapes, and the byte sets in brackets.
 #![tactic(auto)]
 
-ghost use Rattle.std.specs.Prelude.{◌≡◌, ℕ, ◌+◌, ◌<◌, ◌≤◌, length};
+ghost use Rattle.std.specs.Prelude.{◌≡◌, ℕ, ◌+◌, ◌<◌, ◌≤◌, false, length};
 ghost use Rattle.bits.specs.Set.{has};
 ghost use Rattle.classes.specs.Posix.{members as class_members};
 ghost use Rattle.grammar.specs.Bytes.{within};
@@ -92,13 +92,13 @@ fn range_end(s: &[u8], n: usize) -> Result<Read<u8>, Fault>
 // The bytes that pass a test.
 fn bytes_where<F: Fn(u8) -> bool>(test: F) -> ByteSet
     requires { F.IsAlwaysCallable test }
-    ensures { (b : ℕ) → b < 256 → F.post test b (has result.words b) }
+    ensures tested { (b : ℕ) → b < 256 → F.post test b (has result.words b) }
     ensures within { (b : ℕ) → 256 ≤ b → has result.words b ≡ false }
 {
     let mut set = Bits::empty();
-    for b in 0..=u8::MAX {
-        if test(b) {
-            set.insert(b as usize);
+    for b in 0..256 {
+        if test(b as u8) {
+            set.insert(b);
         }
     }
     set

@@ -5,7 +5,7 @@ ghost use Rattle.std.specs.Prelude.{◌≡◌, Some};
 ghost use Rattle.classes.specs.Posix.{members, name_of, class_named};
 
 // The number of a class is the number of its bit in the table.
-#[derive(Clone, Copy)]
+#[derive(Clone, Copy, PartialEq, Eq)]
 pub enum Class {
     Alnum = 0,
     Alpha = 1,
@@ -83,10 +83,5 @@ pub fn class_named(name: &[u8]) -> Option<Class>
     ensures value { result ≡ class_named name.now }
     ensures named { (k : Class) → (result ≡ Some k → name.now ≡ name_of k) × (name.now ≡ name_of k → result ≡ Some k) }
 {
-    for class in CLASSES.iter() {
-        if name == name_of(*class) {
-            return Some(*class);
-        }
-    }
-    None
+    CLASSES.iter().copied().find(|class| name == name_of(*class))
 }

@@ -1,18 +1,26 @@
 -- How the parts of the grammar of expressions unfold at a byte.
-use Rattle.std.proofs.Common.{◌≡◌, ℕ, zero, suc, ◌+◌, ◌-◌, ◌<◌, Bool, true, false, cond, List, length, get_or, Ok, Option, sym, refl, ap, ◌∙◌, arith}
+use Rattle.std.proofs.Common.{◌≡◌, ℕ, zero, suc, ◌+◌, ◌-◌, ◌<◌, Bool, true, false, cond, List, length, get_or, Ok, Option, ne_eqb, sym, refl, ap, ◌∙◌, arith}
 use mathlib.Core.Path.{fun_ext}
 use Rattle.std.proofs.lemmas.Bool.{lt-ltb}
 use Rattle.bits.specs.Set.{has}
 use Rattle.patterns.specs.Expression.{Then}
 use Rattle.grammar.specs.declared.Refusal.TheVariants.{Misfit}
-use Rattle.grammar.specs.Outcome.{Out, refused, then, many}
-use Rattle.grammar.specs.Bytes.{stands}
-use Rattle.grammar.specs.Brackets.{chosen}
+use Rattle.grammar.specs.Outcome.{Out, refused, read, then, many}
+use Rattle.grammar.specs.Bytes.{passes, stands}
 use Rattle.expressions.specs.Reads.{interval_over}
-use Rattle.grammar.specs.Expressions.{Parsed, parsed, joined_by, Parser, any_but_newline, starts_atom, bytes_at, one_of, one_at, quote_at, quoted_byte, quoted_more, in_quotes, past_quote, group_by, closed_group, atom_by, piece_by, marked, repeated_more, branch_by, branch_goes_on, branch_more, alternation_by, bar_ahead, alternation_more, inside}
+use Rattle.grammar.specs.Expressions.{Parsed, parsed, joined_by, Parser, any_but_newline, only_byte, starts_atom, bytes_at, one_of, one_at, quote_at, quoted_byte, quoted_more, in_quotes, past_quote, group_by, closed_group, atom_by, piece_by, marked, repeated_more, branch_by, branch_goes_on, branch_more, alternation_by, bar_ahead, alternation_more, inside}
 
-pub bytes_any : (s : List ℕ) (n : ℕ) (ws : List ℕ) → false ≡ stands s n 91 → false ≡ stands s n 92 → true ≡ stands s n 46 → ((q : ℕ) → has ws q ≡ any_but_newline q) → chosen (has ws) (n + 1) ≡ bytes_at s n
-bytes_any s n ws a b d f = rw (sym a, sym b, sym d) (ap (λ (g : ℕ → Bool). chosen g (n + 1)) (fun_ext f))
+pub bytes_any : (s : List ℕ) (n : ℕ) (ws : List ℕ) → n < length s → get_or s n 0 ≡ 46 → ((q : ℕ) → has ws q ≡ any_but_newline q) → read (has ws) (n + 1) ≡ bytes_at s n
+bytes_any s n ws h e f =
+    let l = lt-ltb n (length s) h in
+    rw (l, e) (ap (λ (g : ℕ → Bool). read g (n + 1)) (fun_ext f))
+
+pub bytes_one : (s : List ℕ) (n : ℕ) → n < length s → (get_or s n 0 ≡ 91 → ⊥) → (get_or s n 0 ≡ 92 → ⊥) → (get_or s n 0 ≡ 46 → ⊥)
+    → bytes_at s n ≡ only_byte (record { value = get_or s n 0; next = n + 1 })
+bytes_one s n h a b d =
+    let l = lt-ltb n (length s) h in
+    let x = ne_eqb _ _ a in let y = ne_eqb _ _ b in let z = ne_eqb _ _ d in
+    rw (l, x, y, z)
 
 pub quote_is : (s : List ℕ) (n u : ℕ) → false ≡ stands s n 34 → quote_at s n u ≡ then (then (quoted_byte s n u) (many (in_quotes s) (quoted_more s) (length s))) past_quote
 quote_is s n u e = rw (sym e)
@@ -45,11 +53,10 @@ pub alternation_is : (inner : Option Parser) (s : List ℕ) (n u : ℕ) → alte
 unfolding alternation_by
 alternation_is inner s n u = refl
 
-pub one_is : (s : List ℕ) (n u : ℕ) → n < length s → true ≡ starts_atom (get_or s n 0) → u < 512 → one_at s n u ≡ then (bytes_at s n) (one_of u)
-one_is s n u h e k =
-    let f = lt-ltb n (length s) h in
+pub one_is : (s : List ℕ) (n u : ℕ) → true ≡ passes starts_atom s n → u < 512 → one_at s n u ≡ then (bytes_at s n) (one_of u)
+one_is s n u e k =
     let g = lt-ltb u 512 k in
-    rw (f, sym e, g)
+    rw (sym e, g)
 
 -- a group whose `)` is missing
 pub closed_open : (d : ℕ) (s : List ℕ) (n u : ℕ) (p : Parsed) → (d ≡ 0 → ⊥) → alternation_by (inside (d - 1) s) s (n + 1) u ≡ Ok p → false ≡ stands s p.at 41 → group_by (inside d s) s n u ≡ refused Misfit p.at

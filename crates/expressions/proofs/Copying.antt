@@ -39,10 +39,6 @@ size_made Many e = refl
 size_made Some e = refl
 size_made Maybe e = refl
 
-pub placed_plain : (i : Interval) (k : ℕ) (w : Work) (x : Fragment) → Plain i k → Forms i k w w x x
-placed_plain i k w x h e a l =
-    record { laid = subst (λ (g : Expression). Laid w g a x) (sym (h e)) l; outside = outside_refl _ _ w }
-
 pub placed_marked : (i : Interval) (k : ℕ) (r : Repeat) (w w' : Work) (x f : Fragment) → Marked i k r → 1024 ≤ length w → Repeats r w w' x f → Forms i k w w' x f
 placed_marked i k r w w' x f h room s e a l =
     let o : Outside a (a + size e) w w' = outside_linked e a w x l w' (goes_round r && roomy w) x.first.words (λ n q. s.memory n q ∙ regroup (member w n q) (goes_round r) (roomy w) _ _) in

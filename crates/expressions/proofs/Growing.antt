@@ -9,6 +9,7 @@ use Rattle.positions.specs.Memory.{Work, Choice}
 use Rattle.positions.specs.Laid.{Laid, Kept, made}
 use Rattle.positions.proofs.Lays.{kept_refl, kept_trans, kept_less, laid_kept, laid_then, kept_then, laid_either, laid_repeats, kept_repeats}
 use Rattle.grammar.specs.declared.Fault.{Fault}
+use Rattle.grammar.specs.declared.Interval.{Interval}
 use Rattle.grammar.specs.declared.Read.{Read}
 use Rattle.grammar.specs.declared.Refusal.TheVariants.{LimitPassed}
 use Rattle.grammar.specs.Outcome.{Out, refused, then, many}
@@ -35,18 +36,18 @@ pub record Grown (s : List ℕ) (go : Parsed → Bool) (step : Parsed → Out Pa
   pub holds : Holds w base r tree
   pub kept : Kept base w₀ w
 
-module _ (s : List ℕ) (go : Parsed → Bool) (step : Parsed → Out Parsed) (o : Out Parsed) (base : ℕ) where
-  pub grown_start : (first : Out Parsed) (w w' : Work) (r : Code) → 0 < r.at → o ≡ then first (many go step (length s)) → Lays first base w w' r → Grown s go step o base w' w' r
-  grown_start first w w' r h e l = record {
+module _ {s : List ℕ} {go : Parsed → Bool} {step : Parsed → Out Parsed} {o : Out Parsed} {base : ℕ} where
+  pub grown_start : {first : Out Parsed} {w w' : Work} {r : Code} → 0 < r.at → o ≡ then first (many go step (length s)) → Lays first base w w' r → Grown s go step o base w' w' r
+  grown_start {first = first} h e l = record {
     tree = l.tree;
     left = starts go step (bytes_left s) o _ (length s) (omega arith) (e ∙ ap (λ (x : Out Parsed). then x (many go step (length s))) l.is);
     holds = record { counts = l.counts; laid = l.laid };
     kept = kept_refl;
   }
 
-  pub grown_turn : (w₀ w w' : Work) (r r' : Code) → Grown s go step o base w₀ w r → ((t : Expression) → true ≡ go (parsed_as r t)) → Steps step base w w' r (Ok r')
+  pub grown_turn : {w₀ w w' : Work} {r r' : Code} → Grown s go step o base w₀ w r → ((t : Expression) → true ≡ go (parsed_as r t)) → Steps step base w w' r (Ok r')
       → r.at < r'.at → r.at ≤ length s → Grown s go step o base w₀ w' r'
-  grown_turn w₀ w w' r r' g on f up below =
+  grown_turn {w = w} {w' = w'} {r = r} {r' = r'} g on f up below =
       let l : Lays (step (parsed_as r g.tree)) base w w' r' = f g.tree g.holds in record {
         tree = l.tree;
         left = turns_on go step (bytes_left s) o (parsed_as r g.tree) (parsed_as r' l.tree) g.left (on g.tree) l.is (omega arith);
@@ -54,8 +55,8 @@ module _ (s : List ℕ) (go : Parsed → Bool) (step : Parsed → Out Parsed) (o
         kept = kept_trans g.kept l.kept;
       }
 
-  pub grown_stop : (u w₀ w : Work) (r : Code) → Grown s go step o base w₀ w r → ((t : Expression) → false ≡ go (parsed_as r t)) → Kept base u w₀ → Lays o base u w r
-  grown_stop u w₀ w r g off k = record {
+  pub grown_stop : {u w₀ w : Work} {r : Code} → Grown s go step o base w₀ w r → ((t : Expression) → false ≡ go (parsed_as r t)) → Kept base u w₀ → Lays o base u w r
+  grown_stop {r = r} g off k = record {
     tree = g.tree;
     is = stops go step (bytes_left s) o (parsed_as r g.tree) g.left (off g.tree);
     counts = g.holds.counts;
@@ -63,12 +64,13 @@ module _ (s : List ℕ) (go : Parsed → Bool) (step : Parsed → Out Parsed) (o
     kept = kept_trans k g.kept;
   }
 
-  pub grown_fails : (w₀ w w' : Work) (r : Code) (f : Fault) → Grown s go step o base w₀ w r → ((t : Expression) → true ≡ go (parsed_as r t)) → Steps step base w w' r (Err f) → r.at ≤ length s → o ≡ Err f
-  grown_fails w₀ w w' r f g on h below =
+  pub grown_fails : {w₀ w : Work} {r : Code} {f : Fault} → Grown s go step o base w₀ w r → ((t : Expression) → true ≡ go (parsed_as r t))
+      → ((t : Expression) → Holds w base r t → step (parsed_as r t) ≡ Err f) → r.at ≤ length s → o ≡ Err f
+  grown_fails {r = r} {f = f} g on h below =
       fails go step (bytes_left s) o (parsed_as r g.tree) f g.left (on g.tree) (h g.tree g.holds) (omega arith)
 
-  pub grown_counted : (w₀ w : Work) (r : Code) → Grown s go step o base w₀ w r → Counted base r
-  grown_counted w₀ w r g = (omega (arith, g.holds.counts, size_pos g.tree), omega (arith, g.holds.counts, g.holds.laid.within))
+  pub grown_counted : {w₀ w : Work} {r : Code} → Grown s go step o base w₀ w r → Counted base r
+  grown_counted g = (omega (arith, g.holds.counts, size_pos g.tree), omega (arith, g.holds.counts, g.holds.laid.within))
 
 -- a further part, behind what r has been read as
 module _ (p : Out Parsed) (base : ℕ) (w w₁ w₂ : Work) (all more r : Code) where
@@ -137,12 +139,12 @@ past_lays o close base w w' all r l c e =
     }
 
 -- the copies of an interval, over all that has been read
-pub interval_steps : (s : List ℕ) (base : ℕ) (w w' : Work) (all : Code) (b : Bounds) (x : ℕ) (f : Fragment)
-    → Ok b ≡ bounds_at s (all.at + 1) → x ≡ extra b.interval → base ≤ all.used → all.used + x * (all.used - base) ≤ 512
-    → Copies b.interval base (all.used - base) w w' all.part f
+pub interval_steps : (s : List ℕ) (base : ℕ) (w w' : Work) (all : Code) (b : Read Interval) (x : ℕ) (f : Fragment)
+    → Ok b ≡ bounds_at s (all.at + 1) → x ≡ extra b.value → base ≤ all.used → all.used + x * (all.used - base) ≤ 512
+    → Copies b.value base (all.used - base) w w' all.part f
     → Steps (interval_over s) base w w' all (Ok (record { part = f; at = b.next; used = all.used + x * (all.used - base) }))
 interval_steps s base w w' all b x f e x-is low fits c t h =
-    let i = b.interval in
+    let i = b.value in
     let n-is : all.used - base ≡ size t = omega (arith, h.counts) in
     let c' : Copies i base (size t) w w' all.part f = subst (λ (n : ℕ). Copies i base n w w' all.part f) n-is c in
     let used-is : all.used + x * (all.used - base) ≡ all.used + extra i * size t =
@@ -152,7 +154,7 @@ interval_steps s base w w' all b x f e x-is low fits c t h =
     let test : leb (all.used + extra i * size t) 512 ≡ true = le-leb _ _ fits' in record {
       tree = repeated i t;
       is =
-          ap (λ (o : Out Bounds). then o (repeated_over (parsed_as all t))) (sym e)
+          ap (λ (o : Out (Read Interval)). then o (repeated_over (parsed_as all t))) (sym e)
           ∙ ap (λ (y : Bool). cond y (parsed (repeated i t) b.next (all.used + extra i * size t)) (refused LimitPassed all.at)) test
           ∙ ap (λ (n : ℕ). parsed (repeated i t) b.next n) (sym used-is);
       counts = used-is ∙ omega (arith, suc-mul (extra i) (size t), size_side i t (extra i) 0, h.counts);
@@ -161,20 +163,28 @@ interval_steps s base w w' all b x f e x-is low fits c t h =
     }
 
 -- an interval that passes the limit
-pub interval_full : (s : List ℕ) (base : ℕ) (w w' : Work) (all : Code) (b : Bounds) (x : ℕ) → Ok b ≡ bounds_at s (all.at + 1) → x ≡ extra b.interval
+pub interval_full : (s : List ℕ) (base : ℕ) (w w' : Work) (all : Code) (b : Read Interval) (x : ℕ) → Ok b ≡ bounds_at s (all.at + 1) → x ≡ extra b.value
     → 512 < all.used + x * (all.used - base) → Steps (interval_over s) base w w' all (refused LimitPassed all.at)
 interval_full s base w w' all b x e x-is past t h =
-    let i = b.interval in
+    let i = b.value in
     let n-is : all.used - base ≡ size t = omega (arith, h.counts) in
     let used-is : all.used + x * (all.used - base) ≡ all.used + extra i * size t =
     ap (λ (n : ℕ). all.used + n * (all.used - base)) x-is ∙ ap (λ (n : ℕ). all.used + extra i * n) n-is in
     let test : leb (all.used + extra i * size t) 512 ≡ false = lt-leb _ _ (subst (λ (n : ℕ). 512 < n) used-is past) in
-    ap (λ (o : Out Bounds). then o (repeated_over (parsed_as all t))) (sym e)
+    ap (λ (o : Out (Read Interval)). then o (repeated_over (parsed_as all t))) (sym e)
     ∙ ap (λ (y : Bool). cond y (parsed (repeated i t) b.next (all.used + extra i * size t)) (refused LimitPassed all.at)) test
 
 pub gives_by : {o o' : Out Parsed} (base : ℕ) (w w' : Work) (r : Result Code Fault) → o ≡ o' → Gives o' base w w' r → Gives o base w w' r
 gives_by base w w' (Ok r) e l = lays_by e l
 gives_by base w w' (Err f) e l = e ∙ l
+
+-- the exit of a `?`, whose fault is f
+pub gives_fault : {o : Out Parsed} {r : Result Code Fault} {f : Fault} (base : ℕ) (w w' : Work) → (y : Fault) × (r ≡ Err y) × (y ≡ f) → o ≡ Err f → Gives o base w w' r
+gives_fault {o = o} base w w' p e = subst (λ (r : Result Code Fault). Gives o base w w' r) (sym (p.1 ∙ ap (λ (y : Fault). Err y) p.2)) e
+
+-- a fault is a fault of all that would go on behind it
+pub then_fault : {X Y : Type 0} {o : Out Y} {first : Out X} {f : Fault} (more : X → Out Y) → o ≡ then first more → first ≡ Err f → o ≡ Err f
+then_fault more e h = e ∙ ap (λ (x : Out _). then x more) h
 
 -- what was read from the next byte on was read from this one on
 pub moves_on : (r : Result Code Fault) (at n : ℕ) → Moves r (at + 1) n → Moves r at n

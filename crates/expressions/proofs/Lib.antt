@@ -2,3 +2,4 @@ pub mod Frames
 pub mod Copying
 pub mod Growing
 pub mod Atoms
+pub mod Whole

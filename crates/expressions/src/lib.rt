@@ -3,16 +3,17 @@
 
 ghost use Rattle.std.specs.Prelude.{◌≡◌, ℕ, suc, ◌+◌, ◌-◌, ◌*◌, ◌^◌, ◌<◌, ◌≤◌, true, length, Ok, MatchOption, ◌==◌};
 ghost use Rattle.bits.specs.Set.{has};
-ghost use Rattle.brackets.specs.Sets.{meant, outcome as chosen_as, Moves as ChosenMoves};
-ghost use Rattle.grammar.specs.Outcome.{fault as fault_of};
+ghost use Rattle.brackets.specs.Sets.{set, chosen as chosen_as};
+ghost use Rattle.grammar.specs.Bytes.{passes};
+ghost use Rattle.grammar.specs.Outcome.{seen, Moves as ReadMoves};
 ghost use Rattle.grammar.specs.Expressions.{extra as extra_of, starts_atom, any_but_newline, bytes_at, only_byte, one_of, one_at, quoted_byte, quoted_more, quote_at, inside, group_by, atom_by, piece_by, branch_more, branch_by, alternation_more, alternation_by};
 ghost use Rattle.expressions.specs.Frames.{Plain, Marked, Forms, Copies};
 ghost use Rattle.expressions.specs.Lays.{Lays, Gives, Steps, Moves};
 ghost use Rattle.expressions.specs.Reads.{Repeating, Counted, JoinsOn, MarksOn, goes_on, interval_over, Expressed};
 
 use bits::{Bits, ByteSet, PositionSet};
-use brackets::{Chosen, bracket, element, escape};
-use grammar::{Element, Fault, Interval, Refusal};
+use brackets::{bracket, element, escape};
+use grammar::{Fault, Interval, Read, Refusal, misfit, refused};
 use intervals::bounds;
 use positions::{Fragment, POSITIONS, Repeat, choice, copied, leaf, repeats, sequence};
 use tokens::stands;
@@ -25,14 +26,47 @@ pub struct Parsed {
     pub used: usize,
 }
 
+impl Parsed {
+    // One byte further.
+    fn past(self) -> Self
+        requires { self.at < 2 ^ 64 - 1 }
+        ensures { result ≡ record { part = self.part; at = self.at + 1; used = self.used } }
+    {
+        Parsed {
+            at: self.at + 1,
+            ..self
+        }
+    }
+
+    // This, and then `next`.
+    fn then(self, next: Self, work: &mut Work) -> Self
+        ensures { JoinsOn work.old work.new self next result }
+    {
+        Parsed {
+            part: sequence(work, &self.part, &next.part),
+            ..next
+        }
+    }
+
+    // This with one more repeat mark.
+    fn marked(self, mark: Repeat, work: &mut Work) -> Self
+        requires { self.at < 2 ^ 64 - 1 }
+        ensures { MarksOn mark work.old work.new self result }
+    {
+        Parsed {
+            part: repeats(work, mark, &self.part),
+            ..self.past()
+        }
+    }
+}
+
+// A set for the bytes of each position, and one for what follows it.
+const SETS: usize = 2 * POSITIONS;
+
+type Work = [PositionSet; SETS];
+
 // How many parentheses may be open at a time.
 const DEPTH: usize = 16;
-
-fn refused(refusal: Refusal, place: usize) -> Fault
-    ensures { result ≡ fault_of refusal place }
-{
-    Fault { refusal, place }
-}
 
 // How many copies an interval asks for beyond the first.
 fn extra(interval: Interval) -> usize
@@ -48,16 +82,15 @@ fn extra(interval: Interval) -> usize
 fn form(interval: Interval, k: usize) -> Option<Repeat>
     ensures { MatchOption result (Plain interval k) (Marked interval k) }
 {
-    let (plain, mark) = match interval {
-        Interval::Between(m, _) => (m, Repeat::Maybe),
-        Interval::AtLeast(m) => (m, Repeat::Many),
-    };
-    if k < plain { None } else { Some(mark) }
+    match interval {
+        Interval::Between(m, _) if k >= m => Some(Repeat::Maybe),
+        Interval::AtLeast(m) if k >= m => Some(Repeat::Many),
+        _ => None,
+    }
 }
 
 // Copy k, which x is, as the interval wants it.
-fn formed(work: &mut [PositionSet], interval: Interval, k: usize, x: &Fragment) -> Fragment
-    requires { 1024 ≤ length work.old }
+fn formed(work: &mut Work, interval: Interval, k: usize, x: &Fragment) -> Fragment
     ensures { Forms interval k work.old work.new x.now result }
 {
     match form(interval, k) {
@@ -68,22 +101,14 @@ fn formed(work: &mut [PositionSet], interval: Interval, k: usize, x: &Fragment) 
 
 // The copies of x, whose `size` positions begin at `base`, side by side. From the last to the first, so that the
 // original is copied before anything is joined to it.
-fn copies(
-    work: &mut [PositionSet],
-    base: usize,
-    size: usize,
-    interval: Interval,
-    x: &Fragment,
-) -> Fragment
-    requires { (1024 ≤ length work.old) × (base + suc (extra_of interval) * size ≤ 512) }
+fn copies(work: &mut Work, base: usize, size: usize, interval: Interval, x: &Fragment) -> Fragment
+    requires { base + suc (extra_of interval) * size ≤ 512 }
     ensures { Copies interval base size work.old work.new x.now result }
 {
     let last = extra(interval);
     let copy = copied(work, base, size, last * size, x);
     let mut all = formed(work, interval, last, &copy);
-    let mut k = last;
-    while k > 0 {
-        k -= 1;
+    for k in (0..last).rev() {
         let copy = copied(work, base, size, k * size, x);
         let next = formed(work, interval, k, &copy);
         all = sequence(work, &next, &all);
@@ -92,40 +117,33 @@ fn copies(
 }
 
 // The interval at the end of `all`, over everything to its left in the branch, which begins with position `base`.
-fn repeated(s: &[u8], all: &Parsed, base: usize, work: &mut [PositionSet]) -> Result<Parsed, Fault>
-    requires { (1024 ≤ length work.old) × ((Counted base all.now) × (all.now.at < length s.now)) }
-    ensures gives { Steps (interval_over s.now) base work.old work.new all.now result }
-    ensures moves { Moves result all.now.at (length s.now) }
+fn repeated(s: &[u8], all: Parsed, base: usize, work: &mut Work) -> Result<Parsed, Fault>
+    requires { (Counted base all) × (all.at < length s.now) }
+    ensures gives { Steps (interval_over s.now) base work.old work.new all result }
+    ensures moves { Moves result all.at (length s.now) }
 {
     let bounds = bounds(s, all.at + 1)?;
     let size = all.used - base;
-    let more = extra(bounds.interval) * size;
+    let more = extra(bounds.value) * size;
     if all.used + more > POSITIONS {
         return Err(refused(Refusal::LimitPassed, all.at));
     }
     Ok(Parsed {
-        part: copies(work, base, size, bounds.interval, &all.part),
+        part: copies(work, base, size, bounds.value, &all.part),
         at: bounds.next,
         used: all.used + more,
     })
-}
-
-fn single(b: u8) -> ByteSet
-    ensures { (q : ℕ) → has result.words q ≡ (q == b) }
-{
-    let mut set = Bits::empty();
-    set.insert(b as usize);
-    set
 }
 
 // What `.` takes.
 fn any_but_newline() -> ByteSet
     ensures { (q : ℕ) → has result.words q ≡ any_but_newline q }
 {
-    single(b'\n').complement()
+    Bits::only(b'\n' as usize).complement()
 }
 
-fn starts_atom(b: u8) -> bool
+// Whether an atom can begin with b.
+pub fn starts_atom(b: u8) -> bool
     ensures { result ≡ starts_atom b }
 {
     match b {
@@ -135,150 +153,113 @@ fn starts_atom(b: u8) -> bool
     }
 }
 
-// That one byte.
-fn only_byte(e: Element) -> Chosen
-    ensures { Ok (meant result) ≡ only_byte e }
+// Whether an atom can begin at n.
+fn atom_ahead(s: &[u8], n: usize) -> bool
+    ensures { result ≡ passes starts_atom s.now n }
 {
-    Chosen {
-        bytes: single(e.byte),
+    s.get(n).is_some_and(|b| starts_atom(*b))
+}
+
+// That one byte.
+fn only_byte(e: Read<u8>) -> Read<ByteSet>
+    ensures { Ok (seen set result) ≡ only_byte e }
+{
+    Read {
+        value: Bits::only(e.value as usize),
         next: e.next,
     }
 }
 
 // The bytes that the atom at n takes, where it is no quote and no group.
-fn bytes_at(s: &[u8], n: usize) -> Result<Chosen, Fault>
+fn bytes_at(s: &[u8], n: usize) -> Result<Read<ByteSet>, Fault>
     requires { n < length s.now }
     ensures is { chosen_as result ≡ bytes_at s.now n }
-    ensures moves { ChosenMoves result n (length s.now) }
+    ensures moves { ReadMoves result n (length s.now) }
 {
-    if stands(s, n, b'[') {
-        return bracket(s, n + 1);
-    }
-    if stands(s, n, b'\\') {
-        let e = escape(s, n + 1)?;
-        return Ok(only_byte(e));
-    }
-    if stands(s, n, b'.') {
-        return Ok(Chosen {
-            bytes: any_but_newline(),
+    match s[n] {
+        b'[' => bracket(s, n + 1),
+        b'\\' => Ok(only_byte(escape(s, n + 1)?)),
+        b'.' => Ok(Read {
+            value: any_but_newline(),
             next: n + 1,
-        });
+        }),
+        b => Ok(only_byte(Read {
+            value: b,
+            next: n + 1,
+        })),
     }
-    Ok(only_byte(Element {
-        byte: s[n],
-        next: n + 1,
-    }))
 }
 
 // One position of these bytes.
-fn position(chosen: &Chosen, used: usize, work: &mut [PositionSet]) -> Parsed
-    requires { (used < 512) × (1024 ≤ length work.old) }
-    ensures gives { Lays (one_of used (meant chosen.now)) used work.old work.new result }
-    ensures moves { result.at ≡ chosen.now.next }
+fn position(chosen: Read<ByteSet>, used: usize, work: &mut Work) -> Parsed
+    requires { used < 512 }
+    ensures gives { Lays (one_of used (seen set chosen)) used work.old work.new result }
+    ensures moves { result.at ≡ chosen.next }
 {
     Parsed {
-        part: leaf(work, used, &chosen.bytes),
+        part: leaf(work, used, &chosen.value),
         at: chosen.next,
         used: used + 1,
     }
 }
 
 // An atom that is one position.
-fn one(s: &[u8], at: usize, used: usize, work: &mut [PositionSet]) -> Result<Parsed, Fault>
-    requires { 1024 ≤ length work.old }
+fn one(s: &[u8], at: usize, used: usize, work: &mut Work) -> Result<Parsed, Fault>
     ensures gives { Gives (one_at s.now at used) used work.old work.new result }
     ensures moves { Moves result at (length s.now) }
 {
-    if at >= s.len() || !starts_atom(s[at]) {
-        return Err(refused(Refusal::Misfit, at));
+    if !atom_ahead(s, at) {
+        return Err(misfit(at));
     }
     if used >= POSITIONS {
         return Err(refused(Refusal::LimitPassed, at));
     }
     let chosen = bytes_at(s, at)?;
-    Ok(position(&chosen, used, work))
+    Ok(position(chosen, used, work))
 }
 
 // A byte or an escape between quotes.
-fn quoted(s: &[u8], at: usize, used: usize, work: &mut [PositionSet]) -> Result<Parsed, Fault>
-    requires { 1024 ≤ length work.old }
+fn quoted(s: &[u8], at: usize, used: usize, work: &mut Work) -> Result<Parsed, Fault>
     ensures gives { Gives (quoted_byte s.now at used) used work.old work.new result }
     ensures moves { Moves result at (length s.now) }
 {
     if at >= s.len() {
-        return Err(refused(Refusal::Misfit, at));
+        return Err(misfit(at));
     }
     if used >= POSITIONS {
         return Err(refused(Refusal::LimitPassed, at));
     }
     let e = element(s, at)?;
-    Ok(position(&only_byte(e), used, work))
-}
-
-// x, and then y.
-fn joined(work: &mut [PositionSet], x: &Parsed, y: &Parsed) -> Parsed
-    requires { 1024 ≤ length work.old }
-    ensures { JoinsOn work.old work.new x.now y.now result }
-{
-    Parsed {
-        part: sequence(work, &x.part, &y.part),
-        at: y.at,
-        used: y.used,
-    }
+    Ok(position(only_byte(e), used, work))
 }
 
 // One more byte or escape of a quote.
-fn quoted_more(
-    s: &[u8],
-    all: &Parsed,
-    base: usize,
-    work: &mut [PositionSet],
-) -> Result<Parsed, Fault>
-    requires { 1024 ≤ length work.old }
-    ensures gives { Steps (quoted_more s.now) base work.old work.new all.now result }
-    ensures moves { Moves result all.now.at (length s.now) }
+fn quoted_more(s: &[u8], all: Parsed, base: usize, work: &mut Work) -> Result<Parsed, Fault>
+    ensures gives { Steps (quoted_more s.now) base work.old work.new all result }
+    ensures moves { Moves result all.at (length s.now) }
 {
     let more = quoted(s, all.at, all.used, work)?;
-    Ok(joined(work, all, &more))
+    Ok(all.then(more, work))
 }
 
 // What stands between quotes, the first of which is before `at`.
-fn quote(s: &[u8], at: usize, used: usize, work: &mut [PositionSet]) -> Result<Parsed, Fault>
-    requires { 1024 ≤ length work.old }
+fn quote(s: &[u8], at: usize, used: usize, work: &mut Work) -> Result<Parsed, Fault>
     ensures gives { Gives (quote_at s.now at used) used work.old work.new result }
     ensures moves { Moves result at (length s.now) }
 {
     if stands(s, at, b'"') {
-        return Err(refused(Refusal::Misfit, at));
+        return Err(misfit(at));
     }
     let mut all = quoted(s, at, used, work)?;
     while !stands(s, all.at, b'"') {
-        all = quoted_more(s, &all, used, work)?;
+        all = quoted_more(s, all, used, work)?;
     }
-    Ok(past(&all))
-}
-
-// One byte further.
-fn past(all: &Parsed) -> Parsed
-    requires { all.now.at < 2 ^ 64 - 1 }
-    ensures { result ≡ record { part = all.now.part; at = all.now.at + 1; used = all.now.used } }
-{
-    Parsed {
-        part: all.part,
-        at: all.at + 1,
-        used: all.used,
-    }
+    Ok(all.past())
 }
 
 #[cycle(alternation_alternative_atom_branch_extended_group_piece)]
-fn group(
-    s: &[u8],
-    at: usize,
-    used: usize,
-    depth: usize,
-    work: &mut [PositionSet],
-) -> Result<Parsed, Fault>
-    requires { (at < length s.now) × (1024 ≤ length work.old) }
+fn group(s: &[u8], at: usize, used: usize, depth: usize, work: &mut Work) -> Result<Parsed, Fault>
+    requires { at < length s.now }
     ensures gives { Gives (group_by (inside depth s.now) s.now at used) used work.old work.new result }
     ensures moves { Moves result at (length s.now) }
 {
@@ -287,20 +268,13 @@ fn group(
     }
     let inner = alternation(s, at + 1, used, depth - 1, work)?;
     if !stands(s, inner.at, b')') {
-        return Err(refused(Refusal::Misfit, inner.at));
+        return Err(misfit(inner.at));
     }
-    Ok(past(&inner))
+    Ok(inner.past())
 }
 
 #[cycle(alternation_alternative_atom_branch_extended_group_piece)]
-fn atom(
-    s: &[u8],
-    at: usize,
-    used: usize,
-    depth: usize,
-    work: &mut [PositionSet],
-) -> Result<Parsed, Fault>
-    requires { 1024 ≤ length work.old }
+fn atom(s: &[u8], at: usize, used: usize, depth: usize, work: &mut Work) -> Result<Parsed, Fault>
     ensures gives { Gives (atom_by (inside depth s.now) s.now at used) used work.old work.new result }
     ensures moves { Moves result at (length s.now) }
 {
@@ -317,45 +291,22 @@ fn atom(
 fn repeat_mark(s: &[u8], n: usize) -> Option<Repeat>
     ensures { Repeating s.now n result }
 {
-    if stands(s, n, b'*') {
-        return Some(Repeat::Many);
-    }
-    if stands(s, n, b'+') {
-        return Some(Repeat::Some);
-    }
-    if stands(s, n, b'?') {
-        return Some(Repeat::Maybe);
-    }
-    None
-}
-
-// `all` with one more repeat mark.
-fn marked(work: &mut [PositionSet], mark: Repeat, all: &Parsed) -> Parsed
-    requires { (1024 ≤ length work.old) × (all.now.at < 2 ^ 64 - 1) }
-    ensures { MarksOn mark work.old work.new all.now result }
-{
-    Parsed {
-        part: repeats(work, mark, &all.part),
-        at: all.at + 1,
-        used: all.used,
+    match s.get(n)? {
+        b'*' => Some(Repeat::Many),
+        b'+' => Some(Repeat::Some),
+        b'?' => Some(Repeat::Maybe),
+        _ => None,
     }
 }
 
 #[cycle(alternation_alternative_atom_branch_extended_group_piece)]
-fn piece(
-    s: &[u8],
-    at: usize,
-    used: usize,
-    depth: usize,
-    work: &mut [PositionSet],
-) -> Result<Parsed, Fault>
-    requires { 1024 ≤ length work.old }
+fn piece(s: &[u8], at: usize, used: usize, depth: usize, work: &mut Work) -> Result<Parsed, Fault>
     ensures gives { Gives (piece_by (inside depth s.now) s.now at used) used work.old work.new result }
     ensures moves { Moves result at (length s.now) }
 {
     let mut all = atom(s, at, used, depth, work)?;
     while let Some(mark) = repeat_mark(s, all.at) {
-        all = marked(work, mark, &all);
+        all = all.marked(mark, work);
     }
     Ok(all)
 }
@@ -364,44 +315,37 @@ fn piece(
 fn goes_on(s: &[u8], n: usize) -> bool
     ensures { result ≡ goes_on s.now n }
 {
-    n < s.len() && (s[n] == b'{' || starts_atom(s[n]))
+    stands(s, n, b'{') || atom_ahead(s, n)
 }
 
 // The branch `all`, which begins with position `base`, and one more piece, or an interval over all of it.
 #[cycle(alternation_alternative_atom_branch_extended_group_piece)]
 fn extended(
     s: &[u8],
-    all: &Parsed,
+    all: Parsed,
     base: usize,
     depth: usize,
-    work: &mut [PositionSet],
+    work: &mut Work,
 ) -> Result<Parsed, Fault>
-    requires { (1024 ≤ length work.old) × (Counted base all.now) }
-    ensures gives { Steps (branch_more (inside depth s.now) s.now) base work.old work.new all.now result }
-    ensures moves { Moves result all.now.at (length s.now) }
+    requires { Counted base all }
+    ensures gives { Steps (branch_more (inside depth s.now) s.now) base work.old work.new all result }
+    ensures moves { Moves result all.at (length s.now) }
 {
     if stands(s, all.at, b'{') {
         return repeated(s, all, base, work);
     }
     let more = piece(s, all.at, all.used, depth, work)?;
-    Ok(joined(work, all, &more))
+    Ok(all.then(more, work))
 }
 
 #[cycle(alternation_alternative_atom_branch_extended_group_piece)]
-fn branch(
-    s: &[u8],
-    at: usize,
-    used: usize,
-    depth: usize,
-    work: &mut [PositionSet],
-) -> Result<Parsed, Fault>
-    requires { 1024 ≤ length work.old }
+fn branch(s: &[u8], at: usize, used: usize, depth: usize, work: &mut Work) -> Result<Parsed, Fault>
     ensures gives { Gives (branch_by (inside depth s.now) s.now at used) used work.old work.new result }
     ensures moves { Moves result at (length s.now) }
 {
     let mut all = piece(s, at, used, depth, work)?;
     while goes_on(s, all.at) {
-        all = extended(s, &all, used, depth, work)?;
+        all = extended(s, all, used, depth, work)?;
     }
     Ok(all)
 }
@@ -410,20 +354,19 @@ fn branch(
 #[cycle(alternation_alternative_atom_branch_extended_group_piece)]
 fn alternative(
     s: &[u8],
-    all: &Parsed,
+    all: Parsed,
     base: usize,
     depth: usize,
-    work: &mut [PositionSet],
+    work: &mut Work,
 ) -> Result<Parsed, Fault>
-    requires { (1024 ≤ length work.old) × (all.now.at < length s.now) }
-    ensures gives { Steps (alternation_more (inside depth s.now) s.now) base work.old work.new all.now result }
-    ensures moves { Moves result all.now.at (length s.now) }
+    requires { all.at < length s.now }
+    ensures gives { Steps (alternation_more (inside depth s.now) s.now) base work.old work.new all result }
+    ensures moves { Moves result all.at (length s.now) }
 {
     let more = branch(s, all.at + 1, all.used, depth, work)?;
     Ok(Parsed {
         part: choice(&all.part, &more.part),
-        at: more.at,
-        used: more.used,
+        ..more
     })
 }
 
@@ -433,15 +376,15 @@ fn alternation(
     at: usize,
     used: usize,
     depth: usize,
-    work: &mut [PositionSet],
+    work: &mut Work,
 ) -> Result<Parsed, Fault>
-    requires { 1024 ≤ length work.old }
     ensures gives { Gives (alternation_by (inside depth s.now) s.now at used) used work.old work.new result }
     ensures moves { Moves result at (length s.now) }
+    ensures whole { length work.new ≡ 1024 }
 {
     let mut all = branch(s, at, used, depth, work)?;
     while stands(s, all.at, b'|') {
-        all = alternative(s, &all, used, depth, work)?;
+        all = alternative(s, all, used, depth, work)?;
     }
     Ok(all)
 }
@@ -456,8 +399,8 @@ pub fn expression(
     ensures gives { Expressed s.now at used work.old work.new result }
     ensures moves { Moves result at (length s.now) }
 {
-    if work.len() < 2 * POSITIONS {
+    let Some(work) = work.first_chunk_mut() else {
         return Err(refused(Refusal::Memory, 0));
-    }
+    };
     alternation(s, at, used, DEPTH, work)
 }

@@ -9,6 +9,7 @@ pub mod name;
 use bits::Bits;
 pub use name::Name;
 
+// A trait of our own, since what is found is promised by a meaning, which `PartialEq` hasn't.
 pub trait Same {
     ghost meaning: { Self → List ℕ };
 
@@ -16,38 +17,37 @@ pub trait Same {
         ensures { Decides result (Self.meaning self.now ≡ Self.meaning other.now) };
 }
 
-// Where an item is: at a place where it was already, at one where it was added, or nowhere, since there is no room for it.
-#[derive(Clone, Copy)]
+// Where an item is: at a place where it was already, or at one where it was added.
+#[derive(Clone, Copy, PartialEq, Eq)]
 pub enum Found {
     Old(usize),
     New(usize),
-    Full,
 }
 
-// The place of the first of the items in use that means the same. In use are the first `count`, or all if they are fewer.
-pub fn find<T: Same>(items: &[T], count: usize, item: &T) -> Option<usize>
-    ensures { Located T.meaning items.now (min count (length items.now)) item.now result }
+// There is no room for an item.
+#[derive(Clone, Copy, PartialEq, Eq)]
+pub struct Full;
+
+// The place of the first of the items that means the same.
+pub fn find<T: Same>(items: &[T], item: &T) -> Option<usize>
+    ensures { Located T.meaning items.now item.now result }
 {
-    for k in 0..count.min(items.len()) {
-        if items[k].same(item) {
-            return Some(k);
-        }
-    }
-    None
+    items.iter().position(|x| x.same(item))
 }
 
-// Finds an item among those in use, or else adds it behind them if there is room.
-pub fn find_or_add<T: Same + Copy>(items: &mut [T], count: usize, item: &T) -> Found
+// Finds an item among those in use, or else adds it behind them if there is room. In use are the first `count`, or all if they are fewer.
+pub fn find_or_add<T: Same + Copy>(items: &mut [T], count: usize, item: &T) -> Result<Found, Full>
     ensures { Placed T.meaning items.old items.new (min count (length items.old)) item.now result }
 {
-    if let Some(k) = find(items, count, item) {
-        return Found::Old(k);
+    let used = count.min(items.len());
+    if let Some(k) = find(&items[0..used], item) {
+        return Ok(Found::Old(k));
     }
-    if count >= items.len() {
-        return Found::Full;
+    if used == items.len() {
+        return Err(Full);
     }
-    items[count] = *item;
-    Found::New(count)
+    items[used] = *item;
+    Ok(Found::New(used))
 }
 
 impl<const W: usize> Same for Bits<W> {

@@ -1,19 +1,35 @@
 // Names of at most 24 bytes.
-ghost use Rattle.std.specs.Prelude.{◌≡◌, ◌≤◌, [], take};
+ghost use Rattle.std.specs.Prelude.{◌≡◌, [], take};
 
 use crate::Same;
+use std::marker::Model;
 
-// The first `len` of the bytes are the name.
-#[derive(Clone, Copy)]
+// The first `len` of the bytes are the name. The others are 0, so that equal names have equal bytes.
+#[derive(Clone, Copy, PartialEq, Eq)]
 pub struct Name {
     bytes: [u8; 24],
     len: usize,
-    ghost ok: { len ≤ 24 },
+}
+
+impl Model for Name {
+    ghost use Rattle.std.specs.Prelude.{ℕ, List, take};
+
+    ghost Value = { List ℕ };
+
+    ghost use Rattle.finder.specs.Names.{Filled, filled, given_back};
+
+    ghost view = { λ n. take n.len n.bytes };
+
+    ghost invariant = { Filled };
+
+    ghost inverse = { filled };
+
+    ghost inverse_ok = { given_back };
 }
 
 impl Name {
     pub fn blank() -> Name
-        ensures { take result.len result.bytes ≡ [] }
+        ensures { result ≡ [] }
     {
         Name {
             bytes: [0; 24],
@@ -23,7 +39,7 @@ impl Name {
 
     // The first 24 bytes of a text, or all if they are fewer.
     pub fn of(text: &[u8]) -> Name
-        ensures { take result.len result.bytes ≡ take 24 text.now }
+        ensures { result ≡ take 24 text.now }
     {
         let mut bytes = [0; 24];
         let len = text.len().min(24);
@@ -33,9 +49,9 @@ impl Name {
 }
 
 impl Same for Name {
-    ghost meaning = { λ n. take n.len n.bytes };
+    ghost meaning = { λ n. n };
 
     fn same(&self, other: &Name) -> bool {
-        &self.bytes[0..self.len] == &other.bytes[0..other.len]
+        self == other
     }
 }

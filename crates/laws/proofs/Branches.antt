@@ -91,7 +91,7 @@ branches_end d s n u q = (branch_reads (inside d s) s (inside_ends s d) n u q, �
 pub interval_covers : IntervalCovers
 interval_covers d s n u p b r t e room =
     let g = reads_grown (inside d s) s (inside_ends s d) n u p r in
-    let q : Parsed = record { tree = repeated b.interval p.tree; at = b.next; used = p.used + extra b.interval * size p.tree } in
+    let q : Parsed = record { tree = repeated b.value p.tree; at = b.next; used = p.used + extra b.value * size p.tree } in
     let m : branch_more (inside d s) s p ≡ Ok q = rw (t, e, le-leb _ _ room) in
     let o : Ordered s (p.at + 1) b = well_at (bounds_at s (p.at + 1)) b (bounds_ends s (p.at + 1) (omega (arith, standing s p.at 123 t))) e in (
       q,
@@ -100,7 +100,7 @@ interval_covers d s n u p b r t e room =
         is_read = further p r (or_left (stands s p.at 123) (passes starts_atom s p.at) t) m;
         behind = refl;
         copies = refl;
-        strings = interval_strings b.interval o.sound p.tree;
+        strings = interval_strings b.value o.sound p.tree;
       },
     )
 
@@ -113,7 +113,7 @@ pub interval_read : IntervalRead
 interval_read d s n u p q r t e =
     let more : then (bounds_at s (p.at + 1)) (repeated_over p) ≡ Ok q = rw t at e in
     let (b, a, o) = then_ok (bounds_at s (p.at + 1)) (repeated_over p) q more in
-    let room : p.used + extra b.interval * size p.tree ≤ 512 = leb-true _ _ (held (leb (p.used + extra b.interval * size p.tree) 512) _ _ q o) in
+    let room : p.used + extra b.value * size p.tree ≤ 512 = leb-true _ _ (held (leb (p.used + extra b.value * size p.tree) 512) _ _ q o) in
     let (x, c) = interval_covers d s n u p b r t a room in
     let i : branch_more (inside d s) s p ≡ Ok x = c.is_next in
     let same : x ≡ q = cc in

@@ -1,7 +1,7 @@
 -- Expressions: each reading moves on within the text, counts the positions of its tree, and is refused within the text.
 use Rattle.std.proofs.Common.{◌≡◌, ℕ, zero, suc, ◌+◌, ◌*◌, ◌<◌, ◌≤◌, Bool, true, false, cond, ◌&&◌, eqb, ltb, leb, List, length, get_or, Some, None, Option, refl, suc-mul, zero-mul, arith}
 use Rattle.std.proofs.lemmas.Bool.{and_parts, ltb-true, leb-true, not-false}
-use Rattle.patterns.specs.Expression.{Expression, Then, Either}
+use Rattle.patterns.specs.Expression.{Bytes, Expression, Then, Either}
 use Rattle.patterns.specs.Expression as expression
 use Rattle.patterns.specs.Positions.{size}
 use Rattle.grammar.specs.declared.Interval.{Interval}
@@ -9,7 +9,6 @@ use Rattle.grammar.specs.declared.Interval.TheVariants.{Between, AtLeast}
 use Rattle.grammar.specs.declared.Read.{Read}
 use Rattle.grammar.specs.Outcome.{Out, many}
 use Rattle.grammar.specs.Bytes.{passes, stands, digit, digits, number}
-use Rattle.grammar.specs.Brackets.{Chosen}
 use Rattle.grammar.specs.Expressions.{Parsed, Parser, starts_atom, one_of, only_byte, bytes_at, one_at, quoted_byte, in_quotes, joined_by, quoted_more, past_quote, quote_at, closed_group, group_by, atom_by, repeat_mark, repeated_by, marked, repeated_more, piece_by, up_to, behind_low, bounds_at, copy_of, side_by_side, extra, repeated_over, branch_goes_on, branch_more, branch_by, bar_ahead, alternation_more, alternation_by, inside}
 use Rattle.tokens.proofs.Items.{span_within}
 use Rattle.laws.specs.Intervals.{Sound}
@@ -70,7 +69,7 @@ module _ (s : List ℕ) where
         behind = omega arith;
       })
 
-  one_of_ends : (n u : ℕ) (c : Chosen) → u < 512 → Behind s n c → Ends (Grown s n u) (length s) (one_of u c)
+  one_of_ends : (n u : ℕ) (c : Read Bytes) → u < 512 → Behind s n c → Ends (Grown s n u) (length s) (one_of u c)
   one_of_ends n u c lt h = well (record { on = h.0; inside = h.1; counts = refl; few = omega arith })
 
   bytes_ends : (n : ℕ) → n < length s → Ends (Behind s n) (length s) (bytes_at s n)
@@ -154,9 +153,9 @@ module _ (s : List ℕ) where
         p k))
 
   -- bounds are in order
-  pub record Ordered (n : ℕ) (b : Bounds) : Type 0 where
+  pub record Ordered (n : ℕ) (b : Read Interval) : Type 0 where
     pub past : Past s n b.next
-    pub sound : Sound b.interval
+    pub sound : Sound b.value
 
   up_ends : (n m k : ℕ) → n < k → k ≤ length s → Ends (Ordered n) (length s) (up_to s m k)
   up_ends n m k lt h =
@@ -184,15 +183,15 @@ module _ (s : List ℕ) where
       cond_ends (eqb (digits 2 s n) 0) (λ t. ill h)
       (λ f. cond_ends (leb (number 2 s n) 32) (λ t. low_ends n (number 2 s n) (n + digits 2 s n) (omega arith) (span_within digit s 2 n h)) (λ g. ill h))
 
-  over_ends : (n u : ℕ) (p : Parsed) (b : Bounds) → Grown s n u p → Past s (p.at + 1) b.next → Ends (Further s n u p) (length s) (repeated_over p b)
+  over_ends : (n u : ℕ) (p : Parsed) (b : Read Interval) → Grown s n u p → Past s (p.at + 1) b.next → Ends (Further s n u p) (length s) (repeated_over p b)
   over_ends n u p b g h =
-      cond_ends (leb (p.used + extra b.interval * size p.tree) 512)
+      cond_ends (leb (p.used + extra b.value * size p.tree) 512)
       (λ t. well (record {
         grown = record {
           on = omega (arith, g.on);
           inside = h.1;
-          counts = omega (arith, g.counts, side_size b.interval p.tree (extra b.interval) 0);
-          few = leb-true (p.used + extra b.interval * size p.tree) 512 t;
+          counts = omega (arith, g.counts, side_size b.value p.tree (extra b.value) 0);
+          few = leb-true (p.used + extra b.value * size p.tree) 512 t;
         };
         behind = omega arith;
       }))

@@ -5,7 +5,7 @@ use Rattle.std.proofs.lemmas.Bool.{and_parts, or_cases, ltb-true, eqb-true, eqb-
 use Rattle.grammar.specs.declared.Read.{Read}
 use Rattle.grammar.specs.Outcome.{then, many}
 use Rattle.grammar.specs.Bytes.{blank, passes, stands, span, part, name_length}
-use Rattle.grammar.specs.Conditions.{Conditions, only_initial, later, numbered, Declared, with_name, declared_as, declare_at, declare_more, line_goes_on, declared, declaration, known, condition_at, Picked, picked_first, picked_too, comma_ahead, pick_more, closed_list, picked_at, active_at}
+use Rattle.grammar.specs.Conditions.{Conditions, only_initial, later, numbered, with_name, declared_as, declare_at, declare_more, line_goes_on, declared, declaration, known, condition_at, picked_first, picked_too, comma_ahead, pick_more, closed_list, picked_at, active_at}
 use Rattle.tokens.proofs.Items.{name_within, span_within}
 use Rattle.laws.proofs.Ends.{Ends, well, ill, map_ends, then_ends, cond_ends, many_ends, Past, standing}
 
@@ -55,9 +55,9 @@ module _ (s : List ℕ) where
       (omega arith, name_within s n h)
 
   -- declarations
-  pub record Declares (n : ℕ) (d : Declared) : Type 0 where
-    pub past : Past s n d.at
-    pub bounded : Bounded d.conditions
+  pub record Declares (n : ℕ) (d : Read Conditions) : Type 0 where
+    pub past : Past s n d.next
+    pub bounded : Bounded d.value
 
   module _ (inclusive : Bool) where
     as_ends : (o : Option ℕ) (c : Conditions) (n k : ℕ) → Bounded c → Past s n (n + k) → Ends (Declares n) (length s) (declared_as o s inclusive c n k)
@@ -72,18 +72,18 @@ module _ (s : List ℕ) where
         cond_ends (eqb (name_length s n) 0) (λ t. ill h)
         (λ f. as_ends (numbered c.names (part s n (name_length s n))) c n (name_length s n) b (name_past n h f))
 
-    declare_more_ends : (d : Declared) → Bounded d.conditions → d.at ≤ length s → Ends (Declares d.at) (length s) (declare_more s inclusive d)
+    declare_more_ends : (d : Read Conditions) → Bounded d.value → d.next ≤ length s → Ends (Declares d.next) (length s) (declare_more s inclusive d)
     declare_more_ends d b h =
-        cond_ends (passes blank s d.at)
+        cond_ends (passes blank s d.next)
         (λ t. map_ends (λ e k. record { past = (omega (arith, k.past.0), k.past.1); bounded = k.bounded })
-        (declare_ends d.conditions (d.at + span blank (length s) s d.at) b (span_within blank s (length s) d.at h)))
+        (declare_ends d.value (d.next + span blank (length s) s d.next) b (span_within blank s (length s) d.next h)))
         (λ f. ill h)
 
-    declared_ends : (d : Declared) → Bounded d.conditions → d.at ≤ length s → Ends Bounded (length s) (declared s inclusive d)
+    declared_ends : (d : Read Conditions) → Bounded d.value → d.next ≤ length s → Ends Bounded (length s) (declared s inclusive d)
     declared_ends d b h =
         then_ends _
         (then_ends (many (line_goes_on s) (declare_more s inclusive) (length s)) (declare_more_ends d b h)
-        (λ e k. many_ends (λ (x : Declared). x.at) (Declares d.at) (length s) (line_goes_on s) (declare_more s inclusive) (λ x g. g.past.1)
+        (λ e k. many_ends (λ (x : Read Conditions). x.next) (Declares d.next) (length s) (line_goes_on s) (declare_more s inclusive) (λ x g. g.past.1)
         (λ x g t. map_ends (λ y m. (record { past = (omega (arith, g.past.0, m.past.0), m.past.1); bounded = m.bounded }, m.past.0)) (declare_more_ends x g.bounded g.past.1))
         (length s) e k (omega (arith, k.past.0))))
         (λ e k. well k.0.bounded)
@@ -93,16 +93,16 @@ module _ (s : List ℕ) where
       cond_ends (stands s n 37)
       (λ t. let lt : n < length s = standing s n 37 t in
       cond_ends (stands s (n + 1) 115)
-      (λ t. declared_ends true (record { conditions = c; at = n + 2 }) b (omega (arith, standing s (n + 1) 115 t)))
+      (λ t. declared_ends true (record { value = c; next = n + 2 }) b (omega (arith, standing s (n + 1) 115 t)))
       (λ f. cond_ends (stands s (n + 1) 120)
-      (λ t. declared_ends false (record { conditions = c; at = n + 2 }) b (omega (arith, standing s (n + 1) 120 t)))
+      (λ t. declared_ends false (record { value = c; next = n + 2 }) b (omega (arith, standing s (n + 1) 120 t)))
       (λ f. cond_ends (stands s (n + 1) 37) (λ t. ill (omega (arith, standing s (n + 1) 37 t))) (λ f. ill (omega arith)))))
       (λ f. ill h)
 
   -- what is named
-  pub record Names (c : Conditions) (n : ℕ) (k : Named) : Type 0 where
+  pub record Names (c : Conditions) (n : ℕ) (k : Read ℕ) : Type 0 where
     pub past : Past s n k.next
-    pub below : k.condition < length c.names
+    pub below : k.value < length c.names
 
   known_ends : (c : Conditions) (o : Option ℕ) (n k : ℕ) → Below (length c.names) o → Past s n (n + k) → Ends (Names c n) (length s) (known o n k)
   known_ends c None n k b h = ill (omega arith)
@@ -114,27 +114,27 @@ module _ (s : List ℕ) where
       (λ f. known_ends c (numbered c.names (part s n (name_length s n))) n (name_length s n) (numbered_below c.names (part s n (name_length s n))) (name_past n h f))
 
   -- what is picked
-  pub record Picks (c : Conditions) (n : ℕ) (p : Picked) : Type 0 where
+  pub record Picks (c : Conditions) (n : ℕ) (p : Read (ℕ → Bool)) : Type 0 where
     pub from : n ≤ p.next
     pub inside : p.next ≤ length s
-    pub below : AllBelow (length c.names) p.conditions
+    pub below : AllBelow (length c.names) p.value
 
   module _ (c : Conditions) where
     pick_first : (n : ℕ) → n ≤ length s → Ends (Picks c (n + 1)) (length s) (then (condition_at s c n) picked_first)
     pick_first n h =
         then_ends picked_first (condition_ends c n h)
-        (λ k g. well (record { from = omega (arith, g.past.0); inside = g.past.1; below = λ i t. omega (arith, g.below, eqb-true i k.condition t) }))
+        (λ k g. well (record { from = omega (arith, g.past.0); inside = g.past.1; below = λ i t. omega (arith, g.below, eqb-true i k.value t) }))
 
-    pick_more_ends : (n : ℕ) (p : Picked) → Picks c n p → comma_ahead s p ≡ true → Ends (λ (q : Picked). Picks c n q × (p.next < q.next)) (length s) (pick_more s c p)
+    pick_more_ends : (n : ℕ) (p : Read (ℕ → Bool)) → Picks c n p → comma_ahead s p ≡ true → Ends (λ (q : Read (ℕ → Bool)). Picks c n q × (p.next < q.next)) (length s) (pick_more s c p)
     pick_more_ends n p h t =
         then_ends (picked_too p) (condition_ends c (p.next + 1) (omega (arith, standing s p.next 44 t)))
         (λ k g. well (
           record {
             from = omega (arith, g.past.0, h.from);
             inside = g.past.1;
-            below = λ i e. elim (or_cases (p.conditions i) (eqb i k.condition) e) [
+            below = λ i e. elim (or_cases (p.value i) (eqb i k.value) e) [
               | inl old ↦ h.below i old
-              | inr new ↦ omega (arith, g.below, eqb-true i k.condition new)
+              | inr new ↦ omega (arith, g.below, eqb-true i k.value new)
             ];
           },
           omega (arith, g.past.0),
@@ -144,7 +144,7 @@ module _ (s : List ℕ) where
     picked_ends n h =
         then_ends (closed_list s)
         (then_ends (many (comma_ahead s) (pick_more s c) (length s)) (pick_first n h)
-        (λ p k. many_ends (λ (q : Picked). q.next) (Picks c (n + 1)) (length s) (comma_ahead s) (pick_more s c) (λ q g. g.inside) (pick_more_ends (n + 1)) (length s) p k (omega (arith, k.from))))
+        (λ p k. many_ends (λ (q : Read (ℕ → Bool)). q.next) (Picks c (n + 1)) (length s) (comma_ahead s) (pick_more s c) (λ q g. g.inside) (pick_more_ends (n + 1)) (length s) p k (omega (arith, k.from))))
         (λ p k. cond_ends (stands s p.next 62)
         (λ t. well (record { from = omega (arith, k.0.from); inside = omega (arith, standing s p.next 62 t); below = k.0.below }))
         (λ f. ill k.0.inside))

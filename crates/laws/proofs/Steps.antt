@@ -6,10 +6,10 @@ use Rattle.grammar.specs.declared.Step.{Step}
 use Rattle.grammar.specs.declared.Step.TheVariants.{Echo, Mark, Begin, More, Less, Reject}
 use Rattle.grammar.specs.declared.Stage.{Stage}
 use Rattle.grammar.specs.declared.Stage.TheVariants.{Writing, Begun, Ended}
-use Rattle.grammar.specs.Outcome.{then, many}
+use Rattle.grammar.specs.Outcome.{read, then, many}
 use Rattle.grammar.specs.Bytes.{within, blank, digit, stands, digits, number, literal}
 use Rattle.grammar.specs.Conditions.{Conditions}
-use Rattle.grammar.specs.Actions.{stepped, numeral, mark_at, begun, begin_at, yield_at, Action, stage_after, writes, step_at, past_blanks, with_step, ended, step_more, action_goes_on, no_steps, steps_of, action_at}
+use Rattle.grammar.specs.Actions.{numeral, mark_at, begun, begin_at, yield_at, Action, stage_after, writes, step_at, past_blanks, with_step, ended, step_more, action_goes_on, no_steps, steps_of, action_at}
 use Rattle.tokens.proofs.Items.{span_within}
 use Rattle.laws.specs.Limits.{Each, StepWithin}
 use Rattle.laws.proofs.Ends.{Ends, well, ill, map_ends, then_ends, cond_ends, many_ends, Past, standing, literal_ends}
@@ -42,15 +42,15 @@ all_room Ended k h = h
 
 module _ (s : List ℕ) (c : Conditions) where
   -- a step read from n on, behind k others
-  record Steps (n k : ℕ) (t : Stepped) : Type 0 where
+  record Steps (n k : ℕ) (t : Read Step) : Type 0 where
     past : Past s n t.next
-    fits : StepWithin (length c.names) t.step
-    stays : suc k ≤ room (stage_after t.step)
+    fits : StepWithin (length c.names) t.value
+    stays : suc k ≤ room (stage_after t.value)
 
   word_ends : (w : List ℕ) (t : Step) (n k : ℕ) → 1 ≤ length w → n ≤ length s → StepWithin (length c.names) t → suc k ≤ room (stage_after t) →
-      Ends (Steps n k) (length s) (then (literal w s n) (stepped t))
+      Ends (Steps n k) (length s) (then (literal w s n) (read t))
   word_ends w t n k some h fits stays =
-      then_ends (stepped t) (literal_ends w s n h) (λ m g. well (record { past = (omega (arith, g.0), g.1); fits = fits; stays = stays }))
+      then_ends (read t) (literal_ends w s n h) (λ m g. well (record { past = (omega (arith, g.0), g.1); fits = fits; stays = stays }))
 
   numeral_ends : (low high : ℕ) (make : ℕ → Step) (w : List ℕ) (m n k : ℕ) → m < n → n ≤ length s →
       ((v : ℕ) → low ≤ v → v ≤ high → StepWithin (length c.names) (make v)) → ((v : ℕ) → suc k ≤ room (stage_after (make v))) →
@@ -60,7 +60,7 @@ module _ (s : List ℕ) (c : Conditions) where
       (λ f. cond_ends (within low high (number 4 s n))
       (λ t.
       let b = and_parts (leb low (number 4 s n)) (leb (number 4 s n) high) t in
-      then_ends (stepped (make (number 4 s n))) (literal_ends w s (n + digits 4 s n) (span_within digit s 4 n h))
+      then_ends (read (make (number 4 s n))) (literal_ends w s (n + digits 4 s n) (span_within digit s 4 n h))
       (λ i g. well (record { past = (omega (arith, g.0), g.1); fits = fits (number 4 s n) (leb-true low (number 4 s n) b.0) (leb-true (number 4 s n) high b.1); stays = stays (number 4 s n) })))
       (λ g. ill h))
 
@@ -73,7 +73,7 @@ module _ (s : List ℕ) (c : Conditions) where
   begin_ends n k h le =
       then_ends _ (literal_ends (codes "BEGIN ") s n h)
       (λ m g. then_ends (begun s) (condition_ends s c m g.1)
-      (λ i j. then_ends (stepped (Begin i.condition)) (literal_ends (codes ";") s i.next j.past.1)
+      (λ i j. then_ends (read (Begin i.value)) (literal_ends (codes ";") s i.next j.past.1)
       (λ o l. well (record { past = (omega (arith, g.0, j.past.0, l.0), l.1); fits = j.below; stays = omega arith }))))
 
   yield_ends : (m n k : ℕ) → m < n → n ≤ length s → k ≤ 9 → Ends (Steps m k) (length s) (yield_at s n)
@@ -115,14 +115,14 @@ module _ (s : List ℕ) (c : Conditions) where
       cond_ends (ended a.stage) (λ t. ill h.inside)
       (λ f. then_ends (with_step s a) (step_ends a h.inside f h.few)
       (λ t g.
-      let b = blanks (stage_after t.step) t.next g.past.1 in
-      let l : length (a.steps ++ (t.step ∷ [])) ≡ length a.steps + 1 = length-append a.steps (t.step ∷ []) in
+      let b = blanks (stage_after t.value) t.next g.past.1 in
+      let l : length (a.steps ++ (t.value ∷ [])) ≡ length a.steps + 1 = length-append a.steps (t.value ∷ []) in
       well (
         record {
           from = omega (arith, h.from, g.past.0, b.0);
           inside = b.1;
           few = omega (arith, g.stays);
-          each = each_more (StepWithin (length c.names)) a.steps t.step h.each g.fits;
+          each = each_more (StepWithin (length c.names)) a.steps t.value h.each g.fits;
         },
         omega (arith, g.past.0, b.0),
       )))

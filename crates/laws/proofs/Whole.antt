@@ -2,11 +2,12 @@
 use Rattle.std.proofs.Common.{◌≡◌, ℕ, zero, suc, ◌+◌, ◌<◌, ◌≤◌, Bool, true, false, cond, ltb, leb, List, [], ◌∷◌, ◌++◌, length, refl, subst, arith, length-append, length-take}
 use Rattle.std.proofs.lemmas.Bool.{ltb-true, leb-true}
 use Rattle.patterns.specs.Positions.{size}
+use Rattle.grammar.specs.declared.Read.{Read}
 use Rattle.grammar.specs.Outcome.{Out}
 use Rattle.grammar.specs.Bytes.{blank, passes, stands, span}
 use Rattle.grammar.specs.Lines.{Line, line_end, next_line, prepend, lines_from, lines, text_of, divides}
 use Rattle.grammar.specs.Expressions.{Parsed, alternation_at, inside}
-use Rattle.grammar.specs.Conditions.{Conditions, only_initial, Picked}
+use Rattle.grammar.specs.Conditions.{Conditions, only_initial}
 use Rattle.grammar.specs.File.{RuleText, trailing_size, rule_size, Pattern, trailed_by, trailing_at, pattern_at, RuleRead, rule_of, behind_pattern, behind_active, starts_rule, rule_line, FirstSection, first_section, RuleFile, second_section, rule_file_of, all_positions}
 use Rattle.tokens.proofs.Items.{span_within, line_within}
 use Rattle.laws.specs.Limits.{PlacesWithin, Each, RuleWithin, FileWithin, LimitsKept}
@@ -48,7 +49,7 @@ module _ (s : List ℕ) where
       few : r.used ≤ 512
       fits : RuleWithin (length c.names) r.rule
 
-    behind_ends : (n : ℕ) (a : Picked) (anchored : Bool) → Picks s c n a → (p : Pattern) → Patterned (u + 1) p → Ends Ruled (length s) (behind_pattern s c a anchored p)
+    behind_ends : (n : ℕ) (a : Read (ℕ → Bool)) (anchored : Bool) → Picks s c n a → (p : Pattern) → Patterned (u + 1) p → Ends Ruled (length s) (behind_pattern s c a anchored p)
     behind_ends n a anchored h p g =
         cond_ends (passes blank s p.at)
         (λ t. then_ends (rule_of a anchored p) (action_ends s c (p.at + span blank (length s) s p.at) (span_within blank s (length s) p.at g.inside))

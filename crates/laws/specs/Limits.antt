@@ -14,9 +14,8 @@ abbrev pub Each : {X : Type 0} → (X → Type 0) → List X → Type 0
 Each P [] = Unit {0}
 Each P (x ∷ xs) = P x × Each P xs
 
--- the step is one, and its number is in bounds, where there are n conditions
+-- the step's number is in bounds, where there are n conditions
 abbrev pub StepWithin : ℕ → Step → Type 0
-StepWithin n Step.Nothing = ⊥
 StepWithin n Echo = Unit {0}
 StepWithin n (Mark k) = k ≤ 255
 StepWithin n (Begin c) = c < n

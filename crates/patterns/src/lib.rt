@@ -4,15 +4,11 @@
 ghost use Rattle.patterns.specs.Theorems.{PositionsWithin, NumberingShifts};
 
 // Theorem: what takes a byte, begins, ends or follows in an expression is one of its positions.
-pub fn positions_lie_within() -> u8
+pub fn positions_lie_within()
     ensures { PositionsWithin }
-{
-    0
-}
+{}
 
 // Theorem: the base from which positions are numbered only shifts them.
-pub fn numbering_shifts() -> u8
+pub fn numbering_shifts()
     ensures { NumberingShifts }
-{
-    0
-}
+{}

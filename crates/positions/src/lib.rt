@@ -19,11 +19,27 @@ pub struct Fragment {
 }
 
 // What `*`, `+` and `?` stand for.
-#[derive(Clone, Copy)]
+#[derive(Clone, Copy, PartialEq, Eq)]
 pub enum Repeat {
     Many,
     Some,
     Maybe,
+}
+
+impl Repeat {
+    // Whether what has the mark may be left out.
+    fn may_lack(self) -> bool
+        ensures { result ≡ empties self }
+    {
+        self != Repeat::Some
+    }
+
+    // Whether what has the mark may come again straight after itself.
+    fn goes_round(self) -> bool
+        ensures { result ≡ goes_round self }
+    {
+        self != Repeat::Maybe
+    }
 }
 
 // Whether there are sets for every position: one for its bytes, and one for what follows it.
@@ -33,27 +49,13 @@ fn is_roomy(work: &[PositionSet]) -> bool
     work.len() >= 2 * POSITIONS
 }
 
-// The same numbers, in as many words as positions have.
-fn wide(bytes: ByteSet) -> PositionSet
-    ensures { (q : ℕ) → has result.words q ≡ has bytes.words q }
-{
-    let mut out: PositionSet = Bits::empty();
-    for b in 0..256 {
-        if bytes.has(b) {
-            out.insert(b);
-        }
-    }
-    out
-}
-
 // The position p, which takes these bytes and which nothing follows yet.
 pub fn leaf(work: &mut [PositionSet], p: usize, bytes: &ByteSet) -> Fragment
     ensures { Leaf work.old work.new p bytes.now.words result }
 {
-    let mut only: PositionSet = Bits::empty();
-    only.insert(p);
+    let only = Bits::only(p);
     if is_roomy(work) && p < POSITIONS {
-        work[p] = wide(*bytes);
+        work[p] = bytes.resized();
         work[POSITIONS + p] = Bits::empty();
     }
     Fragment {
@@ -70,20 +72,11 @@ pub fn link(work: &mut [PositionSet], ends: &PositionSet, starts: &PositionSet)
     if !is_roomy(work) {
         return;
     }
-    for p in 0..POSITIONS {
+    for (p, next) in work[POSITIONS..2 * POSITIONS].iter_mut().enumerate() {
         if ends.has(p) {
-            work[POSITIONS + p].add_all(starts);
+            next.add_all(starts);
         }
     }
-}
-
-// The members of either.
-fn joined(a: &PositionSet, b: &PositionSet) -> PositionSet
-    ensures { (q : ℕ) → has result.words q ≡ (has a.now.words q || has b.now.words q) }
-{
-    let mut all = *a;
-    all.add_all(b);
-    all
 }
 
 // x, and then y.
@@ -93,12 +86,12 @@ pub fn sequence(work: &mut [PositionSet], x: &Fragment, y: &Fragment) -> Fragmen
     link(work, &x.last, &y.first);
     // What can be empty lets its neighbour begin or end the whole.
     let first = if x.nullable {
-        joined(&x.first, &y.first)
+        x.first.either(&y.first)
     } else {
         x.first
     };
     let last = if y.nullable {
-        joined(&x.last, &y.last)
+        x.last.either(&y.last)
     } else {
         y.last
     };
@@ -115,28 +108,8 @@ pub fn choice(x: &Fragment, y: &Fragment) -> Fragment
 {
     Fragment {
         nullable: x.nullable || y.nullable,
-        first: joined(&x.first, &y.first),
-        last: joined(&x.last, &y.last),
-    }
-}
-
-// Whether what has the mark may be left out.
-fn may_lack(mark: Repeat) -> bool
-    ensures { result ≡ empties mark }
-{
-    match mark {
-        Repeat::Many | Repeat::Maybe => true,
-        Repeat::Some => false,
-    }
-}
-
-// Whether what has the mark may come again straight after itself.
-fn goes_round(mark: Repeat) -> bool
-    ensures { result ≡ goes_round mark }
-{
-    match mark {
-        Repeat::Many | Repeat::Some => true,
-        Repeat::Maybe => false,
+        first: x.first.either(&y.first),
+        last: x.last.either(&y.last),
     }
 }
 
@@ -144,11 +117,11 @@ fn goes_round(mark: Repeat) -> bool
 pub fn repeats(work: &mut [PositionSet], mark: Repeat, x: &Fragment) -> Fragment
     ensures { Repeats mark work.old work.new x.now result }
 {
-    if goes_round(mark) {
+    if mark.goes_round() {
         link(work, &x.last, &x.first);
     }
     Fragment {
-        nullable: may_lack(mark) || x.nullable,
+        nullable: mark.may_lack() || x.nullable,
         first: x.first,
         last: x.last,
     }
@@ -170,8 +143,15 @@ fn copy_sets(work: &mut [PositionSet], from: usize, count: usize, by: usize)
     requires { (count ≤ by) × (from + count + by ≤ length work.old) }
     ensures { (k q : ℕ) → member work.new k q ≡ (if between (from + by) (from + count + by) k then member work.old (k - by) q else member work.old k q) }
 {
-    for i in 0..count {
-        work[from + by + i] = work[from + i];
+    work.copy_within(from..from + count, from + by);
+}
+
+// Moves each member of the sets up.
+fn shift_sets(sets: &mut [PositionSet], by: usize)
+    ensures { (k q : ℕ) → member sets.new k q ≡ (nat_lt q 512 && (nat_le by q && member sets.old k (q - by))) }
+{
+    for set in sets.iter_mut() {
+        *set = set.shifted(by);
     }
 }
 
@@ -180,9 +160,8 @@ fn move_sets(work: &mut [PositionSet], from: usize, count: usize, by: usize)
     requires { (count ≤ by) × (from + count + by ≤ length work.old) }
     ensures { (k q : ℕ) → member work.new k q ≡ (if between (from + by) (from + count + by) k then nat_lt q 512 && (nat_le by q && member work.old (k - by) (q - by)) else member work.old k q) }
 {
-    for i in 0..count {
-        work[from + by + i] = work[from + i].shifted(by);
-    }
+    copy_sets(work, from, count, by);
+    shift_sets(&mut work[from + by..from + by + count], by);
 }
 
 // A copy of the `count` positions from `from` on, and of x, which is made of them, `by` further up.

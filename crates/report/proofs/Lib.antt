@@ -1,2 +1,1 @@
 mod Lines
-mod Texts

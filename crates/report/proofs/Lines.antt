@@ -1,33 +1,26 @@
--- How the loops over a file's bytes follow the definitions.
-use Rattle.std.proofs.Common.{◌≡◌, ℕ, suc, ◌+◌, ◌<◌, ◌≤◌, List, length, get_or, drop, add-one, drop-cons, eq-eqb, ne_eqb}
-use Rattle.std.proofs.lemmas.List.{drop_all}
-use Rattle.report.specs.Lines.{newlines, line_start, before_newline}
+-- Where a line starts, by what stands before a place.
+use Rattle.std.proofs.Common.{◌≡◌, ◌≢◌, ℕ, zero, suc, ◌+◌, ◌<◌, ◌≤◌, inl, inr, List, get_or, take, refl, arith, eq-eqb, ne_eqb}
+use Rattle.std.proofs.lemmas.Bool.{cases_eq}
+use Rattle.std.proofs.lemmas.List.{get_or-take}
+use Rattle.report.specs.Lines.{line_start}
 
-module _ (s : List ℕ) (n : ℕ) where
-  pub ends_here : n < length s → get_or s n 0 ≡ 10 → before_newline (drop n s) ≡ 0
-  unfolding before_newline
-  ends_here h e = rw (drop-cons s n 0 h, eq-eqb (get_or s n 0) 10 e)
-
-  pub goes_on : n < length s → (get_or s n 0 ≡ 10 → ⊥) → before_newline (drop n s) ≡ suc (before_newline (drop (n + 1) s))
-  unfolding before_newline
-  goes_on h e = rw (drop-cons s n 0 h, ne_eqb (get_or s n 0) 10 e, add-one)
-
-  pub ends_last : length s ≤ n → before_newline (drop n s) ≡ 0
-  unfolding before_newline
-  ends_last h = rw (drop_all n s h)
-
-  pub counts : get_or s n 0 ≡ 10 → newlines s (n + 1) ≡ suc (newlines s n)
-  unfolding newlines
-  counts e = rw (add-one, eq-eqb (get_or s n 0) 10 e)
-
-  pub passes_over : (get_or s n 0 ≡ 10 → ⊥) → newlines s (n + 1) ≡ newlines s n
-  unfolding newlines
-  passes_over e = rw (add-one, ne_eqb (get_or s n 0) 10 e)
-
-  pub starts_behind : get_or s n 0 ≡ 10 → line_start s (n + 1) ≡ suc n
+module _ (s : List ℕ) where
+  pub first_line : (n : ℕ) → ((k : ℕ) → k < n → get_or s k 0 ≢ 10) → line_start s n ≡ 0
   unfolding line_start
-  starts_behind e = rw (add-one, eq-eqb (get_or s n 0) 10 e)
+  first_line zero none = refl
+  first_line (suc n) none = rw (ne_eqb (get_or s n 0) 10 (none n (omega arith))) (first_line n (λ k h. none k (omega arith)))
 
-  pub starts_before : (get_or s n 0 ≡ 10 → ⊥) → line_start s (n + 1) ≡ line_start s n
+  -- i is the place of the last newline before n
+  pub behind_newline : (n i : ℕ) → i < n → get_or s i 0 ≡ 10 → ((k : ℕ) → i + 1 ≤ k → k < n → get_or s k 0 ≢ 10) → line_start s n ≡ i + 1
   unfolding line_start
-  starts_before e = rw (add-one, ne_eqb (get_or s n 0) 10 e)
+  behind_newline zero i h at none = absurd (omega arith)
+  behind_newline (suc n) i h at none =
+      elim (cases_eq i n) [
+        | inl e ↦ rw (eq-eqb (get_or s n 0) 10 (rw (← e) at)) (omega arith)
+        | inr e ↦ rw (ne_eqb (get_or s n 0) 10 (none n (omega arith) (omega arith))) (behind_newline n i (omega arith) at (λ k l g. none k l (omega arith)))
+      ]
+
+  pub line_start-take : (n m : ℕ) → m ≤ n → line_start (take n s) m ≡ line_start s m
+  unfolding line_start
+  line_start-take n zero h = refl
+  line_start-take n (suc m) h = rw (get_or-take n s m 0 (omega arith), line_start-take n m (omega arith)) refl

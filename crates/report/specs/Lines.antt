@@ -1,5 +1,5 @@
 -- Where a place of a file stands: its line, its column, and the line's two ends.
-use Rattle.std.specs.Prelude.{ℕ, zero, suc, ◌+◌, ◌-◌, min, Bool, cond, List, [], ◌∷◌, length, drop, ◌==◌, slice_index}
+use Rattle.std.specs.Prelude.{ℕ, zero, suc, ◌+◌, ◌-◌, min, Bool, cond, not, List, length, take, drop, count_by, take_while, ◌==◌, slice_index}
 
 -- a place behind the file's end counts as the end
 abbrev pub clipped : List ℕ → ℕ → ℕ
@@ -9,9 +9,8 @@ abbrev pub newline : ℕ → Bool
 newline b = b == 10
 
 -- how many newlines are among the first n bytes
-unfoldable pub newlines : List ℕ → ℕ → ℕ
-newlines file zero = 0
-newlines file (suc n) = cond (newline (slice_index file n)) (suc (newlines file n)) (newlines file n)
+abbrev pub newlines : List ℕ → ℕ → ℕ
+newlines file n = count_by newline (take n file)
 
 -- lines are counted from 1
 abbrev pub line_number : List ℕ → ℕ → ℕ
@@ -23,9 +22,8 @@ line_start file zero = 0
 line_start file (suc n) = cond (newline (slice_index file n)) (suc n) (line_start file n)
 
 -- how many bytes stand before the first newline
-unfoldable pub before_newline : List ℕ → ℕ
-before_newline [] = 0
-before_newline (b ∷ bs) = cond (newline b) 0 (suc (before_newline bs))
+abbrev pub before_newline : List ℕ → ℕ
+before_newline bs = length (take_while (λ b. not (newline b)) bs)
 
 -- the first newline from n on, or the file's end
 abbrev pub line_end : List ℕ → ℕ → ℕ

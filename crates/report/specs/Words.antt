@@ -1,7 +1,5 @@
--- What is shown of a byte, of a column, and of a refusal: its number, and words.
-use Rattle.std.specs.Prelude.{ℕ, ◌-◌, cond, ◌&&◌, List, [], ◌∷◌, ◌++◌, replicate, codes, nat_le}
-use Rattle.grammar.specs.declared.Refusal.{Refusal}
-use Rattle.grammar.specs.declared.Refusal.TheVariants.{Memory, FileTooLong, Misfit, UnknownName, DeclaredAgain, OutOfBounds, LimitPassed}
+-- What is shown of a byte, and of a column.
+use Rattle.std.specs.Prelude.{ℕ, ◌-◌, cond, ◌&&◌, List, [], ◌∷◌, ◌++◌, replicate, nat_le}
 
 -- printable ASCII as it is, any other byte as a dot
 abbrev pub shown_as : ℕ → ℕ
@@ -10,21 +8,3 @@ shown_as b = cond (nat_le 32 b && nat_le b 126) b 46
 -- spaces, and a caret in this column
 abbrev pub caret_in : ℕ → List ℕ
 caret_in column = replicate (column - 1) 32 ++ (94 ∷ [])
-
-abbrev pub number_of : Refusal → ℕ
-number_of Memory = 1
-number_of FileTooLong = 2
-number_of Misfit = 3
-number_of UnknownName = 4
-number_of DeclaredAgain = 5
-number_of OutOfBounds = 6
-number_of LimitPassed = 7
-
-abbrev pub words_of : Refusal → List ℕ
-words_of Memory = codes "the work memory is too small"
-words_of FileTooLong = codes "the file is longer than 8,192 bytes"
-words_of Misfit = codes "this does not fit the grammar here"
-words_of UnknownName = codes "no condition or class has this name"
-words_of DeclaredAgain = codes "this condition is declared already"
-words_of OutOfBounds = codes "this number or range is out of bounds"
-words_of LimitPassed = codes "this passes a limit of the rule file"

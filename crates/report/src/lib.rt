@@ -1,15 +1,15 @@
 // How a fault of a rule file is shown: its line and column, the line's bytes, and the reason in words.
 #![tactic(auto)]
 
-ghost use Rattle.std.specs.Prelude.{◌≡◌, ◌≤◌, map, length, IfOk, string_bytes};
-ghost use Rattle.report.specs.Lines.{clipped, line_number, line_start, line_end, column_of};
-ghost use Rattle.report.specs.Words.{shown_as, caret_in, number_of, words_of};
+ghost use Rattle.std.specs.Prelude.{◌≡◌, ◌≤◌, ◌∷◌, ◌++◌, Some, map, length};
+ghost use Rattle.std.specs.Fmt.{decimal};
+ghost use Rattle.report.specs.Lines.{clipped, before_newline, line_number, line_start, line_end, column_of};
+ghost use Rattle.report.specs.Words.{shown_as, caret_in};
 
-use grammar::Refusal;
-use std::alloc::{AllocError, Global};
+use std::fmt;
 
 // A place of a file: its line and its column there, both counted from 1, and where that line starts and ends.
-#[derive(Clone, Copy)]
+#[derive(Clone, Copy, PartialEq, Eq)]
 pub struct Location {
     pub line: usize,
     pub column: usize,
@@ -17,20 +17,32 @@ pub struct Location {
     pub end: usize,
 }
 
-// The first newline from `from` on, or the file's end.
-fn end_of_line(file: &[u8], from: usize) -> usize
-    requires { from ≤ length file.now }
-    ensures end { result ≡ line_end file.now from }
-    ensures within { (from ≤ result) × (result ≤ length file.now) }
-{
-    let mut end = from;
-    while end < file.len() {
-        if file[end] == b'\n' {
-            return end;
-        }
-        end += 1;
+// The line and the column, as `LINE:COLUMN`.
+impl fmt::Display for Location {
+    ghost output = { λ place. Some (decimal place.line ++ (58 ∷ decimal place.column)) };
+
+    fn fmt<W: fmt::Write>(&self, f: &mut fmt::Formatter<W>) -> fmt::Result {
+        write!(f, "{}:{}", self.line, self.column)
     }
-    end
+}
+
+// How many bytes stand before the first newline.
+fn before_newline(bytes: &[u8]) -> usize
+    ensures number { result ≡ before_newline bytes.now }
+    ensures within { result ≤ length bytes.now }
+{
+    bytes.iter().take_while(|b| **b != b'\n').count()
+}
+
+// Where the last line starts.
+fn last_start(bytes: &[u8]) -> usize
+    ensures start { result ≡ line_start bytes.now (length bytes.now) }
+    ensures within { result ≤ length bytes.now }
+{
+    match bytes.iter().rposition(|b| *b == b'\n') {
+        Some(n) => n + 1,
+        None => 0,
+    }
 }
 
 // Where a place stands; one behind the file's end counts as the end.
@@ -42,19 +54,13 @@ pub fn locate(file: &[u8], place: usize) -> Location
     ensures column { result.column ≡ column_of file.now (clipped file.now place) }
 {
     let at = place.min(file.len());
-    let mut line = 1;
-    let mut start = 0;
-    for i in 0..at {
-        if file[i] == b'\n' {
-            line += 1;
-            start = i + 1;
-        }
-    }
+    let (before, behind) = file.split_at(at);
+    let start = last_start(before);
     Location {
-        line,
+        line: 1 + before.iter().filter(|b| **b == b'\n').count(),
         column: at - start + 1,
         start,
-        end: end_of_line(file, at),
+        end: at + before_newline(behind),
     }
 }
 
@@ -62,50 +68,35 @@ pub fn locate(file: &[u8], place: usize) -> Location
 pub fn shown(b: u8) -> u8
     ensures { result ≡ shown_as b }
 {
-    if b >= 32 && b <= 126 { b } else { b'.' }
+    if matches!(b, b' '..=b'~') { b } else { b'.' }
 }
 
 // A line of a file as it is shown.
-pub fn shown_line(heap: Global, line: &[u8]) -> Result<String, AllocError>
-    ensures { IfOk result (λ text. string_bytes text ≡ map shown_as line.now) }
-{
-    let mut text = String::new(heap);
-    for b in line {
-        text.push(char::from(shown(*b)))?;
+#[derive(Clone, Copy)]
+pub struct ShownLine<'a>(pub &'a [u8]);
+
+impl fmt::Display for ShownLine<'_> {
+    ghost output = { λ line. Some (map shown_as line.0.now) };
+
+    fn fmt<W: fmt::Write>(&self, f: &mut fmt::Formatter<W>) -> fmt::Result {
+        for b in self.0 {
+            f.write_char(char::from(shown(*b)))?;
+        }
+        Ok(())
     }
-    Ok(text)
 }
 
 // A caret in this column, counted from 1, with spaces before it.
-pub fn caret(heap: Global, column: usize) -> Result<String, AllocError>
-    ensures { IfOk result (λ text. string_bytes text ≡ caret_in column) }
-{
-    let mut text = String::new(heap);
-    for _ in 1..column {
-        text.push(' ')?;
-    }
-    text.push('^')?;
-    Ok(text)
-}
+#[derive(Clone, Copy, PartialEq, Eq)]
+pub struct Caret(pub usize);
 
-// The number that a refusal is reported by.
-pub fn number_of(refusal: Refusal) -> u8
-    ensures { result ≡ number_of refusal }
-{
-    refusal as u8
-}
+impl fmt::Display for Caret {
+    ghost output = { λ column. Some (caret_in column.0) };
 
-// A refusal in words.
-pub fn describe(refusal: Refusal) -> &'static str
-    ensures { result.now ≡ words_of refusal }
-{
-    match refusal {
-        Refusal::Memory => "the work memory is too small",
-        Refusal::FileTooLong => "the file is longer than 8,192 bytes",
-        Refusal::Misfit => "this does not fit the grammar here",
-        Refusal::UnknownName => "no condition or class has this name",
-        Refusal::DeclaredAgain => "this condition is declared already",
-        Refusal::OutOfBounds => "this number or range is out of bounds",
-        Refusal::LimitPassed => "this passes a limit of the rule file",
+    fn fmt<W: fmt::Write>(&self, f: &mut fmt::Formatter<W>) -> fmt::Result {
+        for _ in 1..self.0 {
+            f.write_char(' ')?;
+        }
+        f.write_char('^')
     }
 }

@@ -1,5 +1,4 @@
 pub mod Active
-pub mod Initial
+pub mod Each
 pub mod Kept
 pub mod Marks
-pub mod Past

@@ -1,8 +1,8 @@
 -- Loaded memory and rows that name nothing they lack.
-use Rattle.std.specs.Prelude.{◌≡◌, ℕ, ◌^◌, ◌<◌, ◌≤◌, Bool, true, false, T, List, [], length, get_or, nat_lt, slice_index, slice_index_or}
+use Rattle.std.specs.Prelude.{◌≡◌, ℕ, ◌^◌, ◌<◌, ◌≤◌, Bool, true, false, IsTrue, List, [], length, Some, None, Option, nat_lt, slice_index, slice_index_or}
 use Rattle.bits.specs.Set.{has}
 use Rattle.grammar.specs.declared.Step.{Step}
-use Rattle.grammar.specs.declared.Step.TheVariants.{Nothing, Echo, Mark, Begin, More, Less, Reject}
+use Rattle.grammar.specs.declared.Step.TheVariants.{Begin}
 use Rattle.loaded.specs.declared.Row.{Row}
 use Rattle.loaded.specs.declared.Rule.{Rule}
 use Rattle.loaded.specs.declared.Start.{Start}
@@ -10,25 +10,28 @@ use Rattle.loaded.specs.declared.Loaded.{Loaded}
 
 -- the row, the rule and the start rows at an index from 0; zeros past the end
 abbrev pub row_at : List Row → ℕ → Row
-row_at rs k = get_or rs k record { next = []; ends = 0; slashes = 0 }
+row_at rs k = slice_index_or rs k record { next = []; ends = 0; slashes = 0 }
 
 abbrev pub rule_at : Loaded → ℕ → Rule
-rule_at l i = get_or l.rules i record { conditions = record { words = [] }; anchored = false; steps = [] }
+rule_at l i = slice_index_or l.rules i record { conditions = record { words = [] }; anchored = false; trail = 0; steps = [] }
 
 abbrev pub start_at : Loaded → ℕ → Start
-start_at l c = get_or l.starts c record { inside = 0; at_line_start = 0 }
+start_at l c = slice_index_or l.starts c record { inside = 0; at_line_start = 0 }
 
 -- the counts fit the memory, which has n rows, and INITIAL is always there
 abbrev pub CountsFit : Loaded → ℕ → Type 0
 CountsFit l n = (l.row_count ≤ n) × (l.rule_count ≤ 64) × (1 ≤ l.condition_count) × (l.condition_count ≤ 8)
 
--- each start row is one of the rows, or 0
+-- each start row is one of n rows, or 0
+abbrev pub StartIn : ℕ → Start → Type 0
+StartIn n s = (s.inside ≤ n) × (s.at_line_start ≤ n)
+
 abbrev pub StartsIn : Loaded → Type 0
-StartsIn l = (c : ℕ) → c < 8 → ((start_at l c).inside ≤ l.row_count) × ((start_at l c).at_line_start ≤ l.row_count)
+StartsIn l = (c : ℕ) → c < 8 → StartIn l.row_count (start_at l c)
 
 -- and so is each trail start
 abbrev pub TrailsIn : Loaded → Type 0
-TrailsIn l = (i : ℕ) → i < 64 → slice_index l.trails i ≤ l.row_count
+TrailsIn l = (i : ℕ) → i < 64 → (rule_at l i).trail ≤ l.row_count
 
 -- each entry of a row is one of n rows, or 0
 abbrev pub LeadsIn : ℕ → Row → Type 0
@@ -37,9 +40,12 @@ LeadsIn n r = (b : ℕ) → b < 256 → slice_index r.next b ≤ n
 abbrev pub RowsLeadIn : Loaded → List Row → Type 0
 RowsLeadIn l rs = (k : ℕ) → k < l.row_count → LeadsIn l.row_count (row_at rs k)
 
--- no row has a mark of a rule past the last
+-- no row has a mark of a rule past the last of n
+abbrev pub MarkedIn : ℕ → Row → Type 0
+MarkedIn n r = (r.ends < 2 ^ n) × (r.slashes < 2 ^ n)
+
 abbrev pub MarksIn : Loaded → List Row → Type 0
-MarksIn l rs = (k : ℕ) → k < l.row_count → ((row_at rs k).ends < 2 ^ l.rule_count) × ((row_at rs k).slashes < 2 ^ l.rule_count)
+MarksIn l rs = (k : ℕ) → k < l.row_count → MarkedIn l.rule_count (row_at rs k)
 
 -- a rule is active in no condition past the last of n
 abbrev pub ActiveIn : ℕ → List ℕ → Type 0
@@ -49,17 +55,12 @@ abbrev pub RulesActiveIn : Loaded → Type 0
 RulesActiveIn l = (i : ℕ) → i < l.rule_count → ActiveIn l.condition_count (rule_at l i).conditions.words
 
 -- and none of its steps begins one
-abbrev pub step_in : ℕ → Step → Bool
-step_in n Nothing = true
-step_in n Echo = true
-step_in n (Mark m) = true
-step_in n (Begin c) = nat_lt c n
-step_in n More = true
-step_in n (Less m) = true
-step_in n Reject = true
+abbrev pub step_in : ℕ → Option Step → Bool
+step_in n (Some (Begin c)) = nat_lt c n
+step_in n _ = true
 
-abbrev pub BeginsIn : ℕ → List Step → Type 0
-BeginsIn n ts = (j : ℕ) → j < 10 → T (step_in n (slice_index_or ts j Nothing))
+abbrev pub BeginsIn : ℕ → List (Option Step) → Type 0
+BeginsIn n ts = (j : ℕ) → j < 10 → IsTrue (step_in n (slice_index_or ts j None))
 
 abbrev pub RulesBeginIn : Loaded → Type 0
 RulesBeginIn l = (i : ℕ) → i < l.rule_count → BeginsIn l.condition_count (rule_at l i).steps

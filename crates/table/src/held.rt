@@ -1,23 +1,19 @@
 // A table that exists is whole: whoever follows its rows finds each row that one of them names.
 ghost use Rattle.std.specs.Prelude.{◌≡◌, ◌≤◌, [], length, take};
-ghost use Rattle.table.specs.Memory.{CountsFit, StartsIn, TrailsIn, RowsLeadIn, MarksIn, RulesActiveIn, RulesBeginIn, Whole};
-ghost use Rattle.table.specs.Readings.{initial_only, start_row, next_row, end_marks, slash_marks, trail_row};
+ghost use Rattle.std.specs.Option.{option_copied};
+ghost use Rattle.table.specs.Memory.{Whole};
+ghost use Rattle.table.specs.Readings.{initial_only, numbered, start_row, next_row, end_marks, slash_marks, trail_row};
 
 use crate::check;
 use loaded::{Loaded, Row};
 
-// The parts of Whole stand one by one. Rows past the count are cut off.
+// Rows past the count are cut off. A row is named as in loaded memory, whose form is fixed: by a u16 that counts from 1, and
+// 0 is no row.
 #[derive(Drop)]
 pub struct Table<'a> {
     loaded: Loaded,
     rows: &'a [Row],
-    ghost counts: { CountsFit loaded (length rows.now) },
-    ghost starts: { StartsIn loaded },
-    ghost trails: { TrailsIn loaded },
-    ghost leads: { RowsLeadIn loaded rows.now },
-    ghost marks: { MarksIn loaded rows.now },
-    ghost active: { RulesActiveIn loaded },
-    ghost begins: { RulesBeginIn loaded },
+    ghost whole: { Whole loaded rows.now },
     ghost exact: { length rows.now ≡ loaded.row_count },
 }
 
@@ -38,25 +34,21 @@ fn whole<'a>(loaded: &'a Loaded, rows: &'a [Row]) -> Table<'a>
 {
     Table {
         loaded: *loaded,
-        rows: &rows[0..loaded.row_count],
+        rows: &rows[..loaded.row_count],
     }
 }
 
+#[tactic(auto, unfolding(loaded::specs::Zeros::zeros))]
 fn initial<'a>() -> Table<'a>
     ensures { (result.loaded ≡ initial_only) × (result.rows.now ≡ []) }
 {
     Table {
-        loaded: initial_only(),
+        loaded: Loaded {
+            condition_count: 1,
+            ..Loaded::zeros()
+        },
         rows: &[],
     }
-}
-
-fn initial_only() -> Loaded
-    ensures { result ≡ initial_only }
-{
-    let mut only = Loaded::zeros();
-    only.condition_count = 1;
-    only
 }
 
 impl<'a> Table<'a> {
@@ -79,14 +71,11 @@ impl<'a> Table<'a> {
         ensures of { result ≡ start_row self.now.loaded condition at_line_start }
         ensures within { result ≤ length self.now.rows.now }
     {
-        if condition >= self.loaded.condition_count {
-            return 0;
-        }
-        let start = self.loaded.starts[condition];
-        if at_line_start {
-            start.at_line_start
-        } else {
-            start.inside
+        let starts = &self.loaded.starts[..self.loaded.condition_count];
+        match starts.get(condition) {
+            Some(start) if at_line_start => start.at_line_start,
+            Some(start) => start.inside,
+            None => 0,
         }
     }
 
@@ -95,30 +84,21 @@ impl<'a> Table<'a> {
         ensures to { result ≡ next_row self.now.rows.now row b }
         ensures within { result ≤ length self.now.rows.now }
     {
-        if row == 0 || row as usize > self.rows.len() {
-            return 0;
-        }
-        self.rows[row as usize - 1].next[b as usize]
+        numbered(self.rows, row as usize).map_or(0, |r| r.next[b as usize])
     }
 
     // The end marks of a row, bit i for rule i + 1; none of row 0, nor of a row that the table lacks.
     pub fn ends(&self, row: u16) -> u64
         ensures { result ≡ end_marks self.now.rows.now row }
     {
-        if row == 0 || row as usize > self.rows.len() {
-            return 0;
-        }
-        self.rows[row as usize - 1].ends
+        numbered(self.rows, row as usize).map_or(0, |r| r.ends)
     }
 
     // The slash marks of a row, in the same way.
     pub fn slashes(&self, row: u16) -> u64
         ensures { result ≡ slash_marks self.now.rows.now row }
     {
-        if row == 0 || row as usize > self.rows.len() {
-            return 0;
-        }
-        self.rows[row as usize - 1].slashes
+        numbered(self.rows, row as usize).map_or(0, |r| r.slashes)
     }
 
     // The row that a rule's trailing part starts from, rules counted from 1; 0 where the table lacks the rule.
@@ -126,9 +106,14 @@ impl<'a> Table<'a> {
         ensures of { result ≡ trail_row self.now.loaded rule }
         ensures within { result ≤ length self.now.rows.now }
     {
-        if rule == 0 || rule > self.loaded.rule_count {
-            return 0;
-        }
-        self.loaded.trails[rule - 1]
+        let rules = &self.loaded.rules[..self.loaded.rule_count];
+        numbered(rules, rule).map_or(0, |r| r.trail)
     }
+}
+
+// What has this number, counted from 1; nothing has the number 0.
+fn numbered<T>(all: &[T], number: usize) -> Option<&T>
+    ensures { option_copied result ≡ numbered all.now number }
+{
+    number.checked_sub(1).and_then(|k| all.get(k))
 }

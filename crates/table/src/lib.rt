@@ -3,17 +3,17 @@
 
 ghost use Rattle.std.specs.Prelude.{◌≡◌, ◌^◌, ◌<◌, ◌≤◌, length, MatchBool, MatchResult};
 ghost use Rattle.table.specs.declared.NotWhole.TheVariants.{Lacking};
-ghost use Rattle.table.specs.Memory.{CountsFit, StartsIn, TrailsIn, LeadsIn, RowsLeadIn, MarksIn, ActiveIn, RulesActiveIn, step_in, BeginsIn, RulesBeginIn, Whole};
+ghost use Rattle.table.specs.Memory.{CountsFit, StartIn, StartsIn, TrailsIn, LeadsIn, RowsLeadIn, MarkedIn, MarksIn, ActiveIn, RulesActiveIn, step_in, BeginsIn, RulesBeginIn, Whole};
 
 pub mod held;
 
 use bits::ConditionSet;
 use grammar::Step;
 pub use held::{Table, take_up};
-use loaded::{Loaded, Row, Rule};
+use loaded::{Loaded, Row, Rule, Start};
 
 // Why memory is no table's; the reason has its number.
-#[derive(Clone, Copy)]
+#[derive(Clone, Copy, PartialEq, Eq)]
 pub enum NotWhole {
     Lacking = 9,
 }
@@ -29,7 +29,6 @@ pub fn check(loaded: &Loaded, rows: &[Row]) -> Result<(), NotWhole>
     }
 }
 
-// The counts come first: the other parts read as far as these say.
 fn is_whole(loaded: &Loaded, rows: &[Row]) -> bool
     ensures { MatchBool result (Whole loaded.now rows.now) (Whole loaded.now rows.now → ⊥) }
 {
@@ -45,72 +44,65 @@ fn is_whole(loaded: &Loaded, rows: &[Row]) -> bool
 fn counts_fit(loaded: &Loaded, rows: usize) -> bool
     ensures { MatchBool result (CountsFit loaded.now rows) (CountsFit loaded.now rows → ⊥) }
 {
-    if loaded.row_count > rows || loaded.rule_count > 64 {
-        return false;
-    }
-    loaded.condition_count >= 1 && loaded.condition_count <= 8
+    loaded.row_count <= rows
+        && loaded.rule_count <= loaded.rules.len()
+        && (1..=loaded.starts.len()).contains(&loaded.condition_count)
 }
 
 fn starts_in(loaded: &Loaded) -> bool
     ensures { MatchBool result (StartsIn loaded.now) (StartsIn loaded.now → ⊥) }
 {
-    for start in loaded.starts.iter() {
-        if start.inside as usize > loaded.row_count
-            || start.at_line_start as usize > loaded.row_count
-        {
-            return false;
-        }
-    }
-    true
+    loaded
+        .starts
+        .iter()
+        .all(|start| start_in(start, loaded.row_count))
+}
+
+fn start_in(start: &Start, rows: usize) -> bool
+    ensures { MatchBool result (StartIn rows start.now) (StartIn rows start.now → ⊥) }
+{
+    start.inside as usize <= rows && start.at_line_start as usize <= rows
 }
 
 fn trails_in(loaded: &Loaded) -> bool
     ensures { MatchBool result (TrailsIn loaded.now) (TrailsIn loaded.now → ⊥) }
 {
-    for trail in loaded.trails.iter() {
-        if *trail as usize > loaded.row_count {
-            return false;
-        }
-    }
-    true
+    loaded
+        .rules
+        .iter()
+        .all(|rule| rule.trail as usize <= loaded.row_count)
 }
 
 fn rows_lead_in(loaded: &Loaded, rows: &[Row]) -> bool
-    requires { loaded.now.row_count ≤ length rows.now }
     ensures { MatchBool result (RowsLeadIn loaded.now rows.now) (RowsLeadIn loaded.now rows.now → ⊥) }
 {
-    for k in 0..loaded.row_count {
-        if !leads_in(&rows[k], loaded.row_count) {
-            return false;
-        }
-    }
-    true
+    rows.iter()
+        .take(loaded.row_count)
+        .all(|row| leads_in(row, loaded.row_count))
 }
 
 fn leads_in(row: &Row, rows: usize) -> bool
     ensures { MatchBool result (LeadsIn rows row.now) (LeadsIn rows row.now → ⊥) }
 {
-    for to in row.next.iter() {
-        if *to as usize > rows {
-            return false;
-        }
-    }
-    true
+    row.next.iter().all(|to| *to as usize <= rows)
 }
 
 fn marks_in(loaded: &Loaded, rows: &[Row]) -> bool
-    requires { loaded.now.row_count ≤ length rows.now }
     ensures { MatchBool result (MarksIn loaded.now rows.now) (MarksIn loaded.now rows.now → ⊥) }
 {
-    for k in 0..loaded.row_count {
-        if !below(rows[k].ends, loaded.rule_count) || !below(rows[k].slashes, loaded.rule_count) {
-            return false;
-        }
-    }
-    true
+    rows.iter()
+        .take(loaded.row_count)
+        .all(|row| marked_in(row, loaded.rule_count))
+}
+
+fn marked_in(row: &Row, rules: usize) -> bool
+    ensures { MatchBool result (MarkedIn rules row.now) (MarkedIn rules row.now → ⊥) }
+{
+    below(row.ends, rules) && below(row.slashes, rules)
 }
 
 // Whether no bit from n on is set.
+#[tactic(auto, using(crate::proofs::Marks::any_marks, crate::proofs::Marks::shifted_out))]
 fn below(marks: u64, n: usize) -> bool
     ensures { MatchBool result (marks < 2 ^ n) (marks < 2 ^ n → ⊥) }
 {
@@ -118,56 +110,43 @@ fn below(marks: u64, n: usize) -> bool
 }
 
 fn rules_active_in(loaded: &Loaded) -> bool
-    requires { loaded.now.rule_count ≤ 64 }
     ensures { MatchBool result (RulesActiveIn loaded.now) (RulesActiveIn loaded.now → ⊥) }
 {
-    for i in 0..loaded.rule_count {
-        if !active_in(loaded.rules[i].conditions, loaded.condition_count) {
-            return false;
-        }
-    }
-    true
+    loaded
+        .rules
+        .iter()
+        .take(loaded.rule_count)
+        .all(|rule| active_in(rule.conditions, loaded.condition_count))
 }
 
+#[tactic(auto, using(crate::proofs::Active::first_active))]
 fn active_in(active: ConditionSet, conditions: usize) -> bool
     ensures { MatchBool result (ActiveIn conditions active.words) (ActiveIn conditions active.words → ⊥) }
 {
-    for k in conditions..64 {
-        if active.has(k) {
-            return false;
-        }
-    }
-    true
+    active.next(conditions).is_none()
 }
 
 fn rules_begin_in(loaded: &Loaded) -> bool
-    requires { loaded.now.rule_count ≤ 64 }
     ensures { MatchBool result (RulesBeginIn loaded.now) (RulesBeginIn loaded.now → ⊥) }
 {
-    for i in 0..loaded.rule_count {
-        if !begins_in(&loaded.rules[i], loaded.condition_count) {
-            return false;
-        }
-    }
-    true
+    loaded
+        .rules
+        .iter()
+        .take(loaded.rule_count)
+        .all(|rule| begins_in(rule, loaded.condition_count))
 }
 
 fn begins_in(rule: &Rule, conditions: usize) -> bool
     ensures { MatchBool result (BeginsIn conditions rule.now.steps) (BeginsIn conditions rule.now.steps → ⊥) }
 {
-    for step in rule.steps.iter() {
-        if !step_in(*step, conditions) {
-            return false;
-        }
-    }
-    true
+    rule.steps.iter().all(|step| step_in(*step, conditions))
 }
 
-fn step_in(step: Step, conditions: usize) -> bool
+fn step_in(step: Option<Step>, conditions: usize) -> bool
     ensures { result ≡ step_in conditions step }
 {
     match step {
-        Step::Begin(c) => (c as usize) < conditions,
+        Some(Step::Begin(c)) => (c as usize) < conditions,
         _ => true,
     }
 }

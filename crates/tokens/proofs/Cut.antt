@@ -1,14 +1,20 @@
 -- How names and numbers are cut out of a text, and what the digits are worth.
-use Rattle.std.proofs.Common.{◌≡◌, ℕ, zero, suc, ◌+◌, ◌-◌, ◌*◌, ◌^◌, ◌<◌, ◌≤◌, min, List, length, get_or, take, drop, refl, ap, ◌∙◌, ⊎_elim, pow-suc, add-one, arith}
+use Rattle.std.proofs.Common.{◌≡◌, ℕ, zero, suc, ◌+◌, ◌-◌, ◌*◌, ◌^◌, ◌<◌, ◌≤◌, true, min, List, length, get_or, take, drop, refl, ap, ◌∙◌, ⊎_elim, pow-suc, add-one, arith}
 use Rattle.std.proofs.lemmas.List.{length-take, length-drop, get_or-take, get_or-drop}
 use Rattle.std.proofs.lemmas.Bool.{cases_lt}
-use Rattle.grammar.specs.Bytes.{part, name_length, digit, digits, value, number}
+use Rattle.grammar.specs.Bytes.{passes, span, part, name_start, name_byte, name_length, digit, digits, value, number}
 use Rattle.tokens.specs.Parts.{Part, value_of}
-use Rattle.tokens.proofs.Items.{name_there, name_within, span_there, span_within, span_most, value_more}
+use Rattle.tokens.proofs.Items.{name_some, name_there, name_within, span_there, span_within, span_most, value_more}
 
 pub name_ends : (s : List ℕ) (n k : ℕ) → k ≡ name_length s n → (k ≡ 0 → ⊥) → n + k ≤ length s
 name_ends s n k e some =
     ⊎_elim (λ none. absurd (some (e ∙ none))) (λ lt. omega (arith, name_within s n (omega arith))) (name_there s n)
+
+-- where a name starts, it is that byte and those behind it that may go on
+pub name_long : (s : List ℕ) (n k : ℕ) → true ≡ passes name_start s n → k ≡ span name_byte 23 s (n + 1) → 1 + k ≡ name_length s n
+name_long s n k e f =
+    let z : suc n ≡ n + 1 = omega arith in
+    omega (arith, name_some s n e, ap (span name_byte 23 s) z)
 
 pub number_ends : (m : ℕ) (s : List ℕ) (n k : ℕ) → k ≡ digits m s n → (k ≡ 0 → ⊥) → n + k ≤ length s
 number_ends m s n k e some =

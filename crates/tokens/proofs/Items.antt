@@ -1,10 +1,13 @@
 -- How the loops over bytes follow the definitions, and the bounds of what is read.
-use Rattle.std.proofs.Common.{◌≡◌, ℕ, zero, suc, ◌+◌, ◌-◌, ◌*◌, ◌^◌, ◌<◌, ◌≤◌, Bool, true, false, cond, eqb, ltb, leb, ◌⊎◌, List, [], ◌∷◌, length, get_or, drop, Ok, sym, refl, ap, ◌∙◌, inl, inr, pow-suc, arith, ltb-true, le-ltb, eqb-true, leb-true}
+use Rattle.std.proofs.Common.{◌≡◌, ℕ, zero, suc, ◌+◌, ◌-◌, ◌*◌, ◌^◌, ◌<◌, ◌≤◌, Bool, true, false, ◌&&◌, cond, eqb, ltb, leb, ◌⊎◌, List, [], ◌∷◌, length, get_or, take, drop, Ok, sym, refl, ap, ◌∙◌, inl, inr, pow-suc, arith, ltb-true, ltb-false, le-ltb, eqb-true, leb-true}
+use Rattle.std.specs.List.{take_while, zip}
+use Rattle.std.proofs.Math.Seq.{drop-cons}
+use Rattle.std.proofs.lemmas.List.Sums.{take_while-cons}
 use native.Mathlib.Nat.{pow-le-pow_right}
 use Rattle.std.proofs.lemmas.Bool.{and_parts, and_left}
-use Rattle.std.proofs.lemmas.List.{drop_more, drop_all}
+use Rattle.std.proofs.lemmas.List.{drop_all}
 use Rattle.grammar.specs.declared.Refusal.TheVariants.{Misfit}
-use Rattle.grammar.specs.Outcome.{Out, refused}
+use Rattle.grammar.specs.Outcome.{refused}
 use Rattle.grammar.specs.Bytes.{passes, stands, span, literal, blank, digit, name_start, name_byte, name_length, digits, value, number}
 use Rattle.grammar.specs.Lines.{trimmed, not_newline, raw_length, line_end, next_line}
 
@@ -31,27 +34,23 @@ module _ (t : ℕ → Bool) (s : List ℕ) where
   unfolding span
   go k n e = rw e
 
-  pub span_starts : (m n : ℕ) → 0 + span t (m - 0) s n ≡ span t m s n
-  span_starts m n =
-      let a : m - 0 ≡ m = omega arith in
-      omega (arith, ap (λ (x : ℕ). span t x s n) a)
-
-  pub span_stops : (m k n whole : ℕ) → k + span t (m - k) s n ≡ whole → false ≡ passes t s n → k ≡ whole
-  span_stops m k n whole h e = omega (arith, stop (m - k) n (sym e))
-
-  pub span_goes : (m k n whole : ℕ) → k < m → k + span t (m - k) s n ≡ whole → true ≡ passes t s n → (k + 1) + span t (m - (k + 1)) s (n + 1) ≡ whole
-  span_goes m k n whole lt h e =
-      let a : m - k ≡ suc (m - (k + 1)) = omega arith in
-      let b : suc n ≡ n + 1 = omega arith in
-      let f : span t (m - k) s n ≡ suc (span t (m - (k + 1)) s (n + 1)) = ap (λ (x : ℕ). span t x s n) a ∙ go (m - (k + 1)) n (sym e) ∙ ap (λ (x : ℕ). suc (span t (m - (k + 1)) s x)) b in
-      omega (arith, f)
-
-  pub span_ends : (m k n whole : ℕ) → m ≤ k → k ≤ m → k + span t (m - k) s n ≡ whole → m ≡ whole
+  -- the bytes that are counted are the first of the list that pass
+  pub span_list : (k n : ℕ) → length (take_while t (take k (drop n s))) ≡ span t k s n
   unfolding span
-  span_ends m k n whole lo hi h =
-      let a : m - k ≡ 0 = omega arith in
-      let f : span t (m - k) s n ≡ 0 = ap (λ (x : ℕ). span t x s n) a in
-      omega (arith, f)
+  span_list zero n = refl
+  span_list (suc k) n = at (ltb n (length s)) refl (span_list k (suc n))
+    where
+      at : (b : Bool) → b ≡ ltb n (length s) → length (take_while t (take k (drop (suc n) s))) ≡ span t k s (suc n) →
+          length (take_while t (take (suc k) (drop n s))) ≡ cond (b && t (get_or s n 0)) (suc (span t k s (suc n))) 0
+      at true e more =
+          let lt : n < length s = ltb-true _ _ (sym e) in
+          rw (drop-cons s n 0 lt, take_while-cons t (get_or s n 0) (take k (drop (suc n) s))) (through (t (get_or s n 0)) more)
+        where
+          through : (b : Bool) → length (take_while t (take k (drop (suc n) s))) ≡ span t k s (suc n) →
+              length (cond b (get_or s n 0 ∷ take_while t (take k (drop (suc n) s))) []) ≡ cond b (suc (span t k s (suc n))) 0
+          through true h = ap suc h
+          through false h = refl
+      at false e more = rw (drop_all n s (ltb-false _ _ (sym e))) refl
 
   -- the bytes that are counted are there, and pass
   pub span_within : (k n : ℕ) → n ≤ length s → n + span t k s n ≤ length s
@@ -165,24 +164,65 @@ number_two s n = number_below 2 s n
 pub number_four : (s : List ℕ) (n : ℕ) → number 4 s n < 10000
 number_four s n = number_below 4 s n
 
-pub literal_fails : (s : List ℕ) (b : ℕ) (bs : List ℕ) (n : ℕ) → false ≡ stands s n b → literal (b ∷ bs) s n ≡ refused Misfit n
-literal_fails s b bs n e = rw (sym e)
+-- how many bytes of a word stand at n
+module _ (s : List ℕ) where
+  abbrev pub common : List ℕ → ℕ → ℕ
+  common w n = length (take_while (λ (pair : ℕ × ℕ). eqb pair.1 pair.0) (zip w (drop n s)))
 
-pub literal_goes : (s : List ℕ) (b : ℕ) (bs : List ℕ) (n : ℕ) → true ≡ stands s n b → literal (b ∷ bs) s n ≡ literal bs s (n + 1)
-literal_goes s b bs n e = rw (sym e)
+  -- the first that stands counts, and the others from the next place on
+  common_more : (b : ℕ) (bs : List ℕ) (n : ℕ) → true ≡ stands s n b → common (b ∷ bs) n ≡ suc (common bs (n + 1))
+  common_more b bs n e =
+      let lt : n < length s = stands_below s n b e in
+      let there : eqb (get_or s n 0) b ≡ true = (and_parts (ltb n (length s)) (eqb (get_or s n 0) b) (sym e)).1 in
+      let z : suc n ≡ n + 1 = omega arith in
+      rw (drop-cons s n 0 lt, take_while-cons (λ (pair : ℕ × ℕ). eqb pair.1 pair.0) (b, get_or s n 0) (zip bs (drop (suc n) s)), there, z) refl
 
--- the loop over a word, whose first i bytes stood
-module _ (word s : List ℕ) (whole : Out ℕ) where
-  pub literal_turns : (i at : ℕ) → i < length word → literal (drop i word) s at ≡ whole → true ≡ stands s at (get_or word i 0) → literal (drop (i + 1) word) s (at + 1) ≡ whole
-  literal_turns i at lt h e =
-      sym (ap (λ (w : List ℕ). literal w s at) (drop_more word i 0 lt) ∙ literal_goes s (get_or word i 0) (drop (i + 1) word) at e) ∙ h
+  common_none : (b : ℕ) (bs : List ℕ) (n : ℕ) → false ≡ stands s n b → common (b ∷ bs) n ≡ 0
+  common_none b bs n e = at (ltb n (length s)) refl
+    where
+      at : (a : Bool) → a ≡ ltb n (length s) → common (b ∷ bs) n ≡ 0
+      at true l =
+          let lt : n < length s = ltb-true _ _ (sym l) in
+          let other : eqb (get_or s n 0) b ≡ false = rw (sym l) at (sym e) in
+          rw (drop-cons s n 0 lt, take_while-cons (λ (pair : ℕ × ℕ). eqb pair.1 pair.0) (b, get_or s n 0) (zip bs (drop (suc n) s)), other) refl
+      at false l = rw (drop_all n s (ltb-false _ _ (sym l))) refl
 
-  pub literal_refuses : (i at : ℕ) → i < length word → literal (drop i word) s at ≡ whole → false ≡ stands s at (get_or word i 0) → refused Misfit at ≡ whole
-  literal_refuses i at lt h e =
-      sym (ap (λ (w : List ℕ). literal w s at) (drop_more word i 0 lt) ∙ literal_fails s (get_or word i 0) (drop (i + 1) word) at e) ∙ h
+  -- a word that stands whole, and one that does not
+  pub literal_whole : (w : List ℕ) (n : ℕ) → length w ≤ common w n → literal w s n ≡ Ok (n + common w n)
+  literal_whole [] n h = let z : n ≡ n + 0 = omega arith in ap Ok z
+  literal_whole (b ∷ bs) n h = at (stands s n b) refl (literal_whole bs (n + 1))
+    where
+      at : (a : Bool) → a ≡ stands s n b → (length bs ≤ common bs (n + 1) → literal bs s (n + 1) ≡ Ok (n + 1 + common bs (n + 1))) → cond a (literal bs s (n + 1)) (refused Misfit n) ≡ Ok (n + common (b ∷ bs) n)
+      at true e more =
+          let c : common (b ∷ bs) n ≡ suc (common bs (n + 1)) = common_more b bs n e in
+          let i : literal bs s (n + 1) ≡ Ok (n + 1 + common bs (n + 1)) = more (omega arith) in
+          let z : n + 1 + common bs (n + 1) ≡ n + common (b ∷ bs) n = omega arith in
+          i ∙ ap Ok z
+      at false e more = absurd (omega (arith, common_none b bs n e))
 
-  pub literal_ends : (i at : ℕ) → length word ≤ i → literal (drop i word) s at ≡ whole → Ok at ≡ whole
-  literal_ends i at le h = sym (ap (λ (w : List ℕ). literal w s at) (drop_all i word le)) ∙ h
+  pub literal_part : (w : List ℕ) (n : ℕ) → common w n < length w → literal w s n ≡ refused Misfit (n + common w n)
+  literal_part [] n h = absurd (omega arith)
+  literal_part (b ∷ bs) n h = at (stands s n b) refl (literal_part bs (n + 1))
+    where
+      at : (a : Bool) → a ≡ stands s n b → (common bs (n + 1) < length bs → literal bs s (n + 1) ≡ refused Misfit (n + 1 + common bs (n + 1))) → cond a (literal bs s (n + 1)) (refused Misfit n) ≡ refused Misfit (n + common (b ∷ bs) n)
+      at true e more =
+          let c : common (b ∷ bs) n ≡ suc (common bs (n + 1)) = common_more b bs n e in
+          let i : literal bs s (n + 1) ≡ refused Misfit (n + 1 + common bs (n + 1)) = more (omega arith) in
+          let z : n + 1 + common bs (n + 1) ≡ n + common (b ∷ bs) n = omega arith in
+          i ∙ ap (λ (x : ℕ). refused Misfit x) z
+      at false e more =
+          let z : n ≡ n + common (b ∷ bs) n = omega (arith, common_none b bs n e) in
+          ap (λ (x : ℕ). refused Misfit x) z
+
+  -- it ends within the text where any of it stands
+  pub common_within : (w : List ℕ) (n : ℕ) → (n + common w n ≤ length s) ⊎ (common w n ≡ 0)
+  common_within [] n = inr refl
+  common_within (b ∷ bs) n = at (stands s n b) refl (common_within bs (n + 1))
+    where
+      at : (a : Bool) → a ≡ stands s n b → (n + 1 + common bs (n + 1) ≤ length s) ⊎ (common bs (n + 1) ≡ 0) → (n + common (b ∷ bs) n ≤ length s) ⊎ (common (b ∷ bs) n ≡ 0)
+      at true e (inl h) = inl (omega (arith, common_more b bs n e))
+      at true e (inr h) = inl (omega (arith, common_more b bs n e, stands_below s n b e))
+      at false e h = inr (common_none b bs n e)
 
 -- a fixed word is as long as it is, and within the text
 pub literal_moves : (w s : List ℕ) (n m : ℕ) → literal w s n ≡ Ok m → n ≤ length s → (m ≤ length s) × (m ≡ n + length w)

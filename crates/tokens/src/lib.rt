@@ -1,7 +1,7 @@
 // The smallest items of a rule file: bytes of a kind, names, numbers, fixed words, and lines without their trailing blanks.
 #![tactic(auto)]
 
-ghost use Rattle.std.specs.Prelude.{◌≡◌, ℕ, ◌+◌, ◌-◌, ◌^◌, ◌<◌, ◌≤◌, min, List, length};
+ghost use Rattle.std.specs.Prelude.{◌≡◌, ℕ, ◌+◌, ◌-◌, ◌^◌, ◌<◌, ◌≤◌, min, List, length, take, take_while, drop, zip, ◌==◌};
 ghost use Rattle.grammar.specs.Bytes.{stands as stands_at, passes as passes_at, span as span_at, part, digits as digits_at, number as number_at, literal as literal_at};
 ghost use Rattle.grammar.specs.Lines.{line_end, next_line, trimmed as trimmed_at};
 ghost use Rattle.tokens.specs.Kinds.{holds};
@@ -59,8 +59,16 @@ pub fn passes(s: &[u8], n: usize, kind: Kind) -> bool
 }
 
 // How many bytes of the kind stand in a row from n on, up to `most`.
+#[tactic(auto, using(crate::proofs::Items::span_list))]
 pub fn span(s: &[u8], n: usize, most: usize, kind: Kind) -> usize
     ensures { result ≡ span_at (holds kind) most s.now n }
+{
+    leading(s, n, most, kind)
+}
+
+// The same by the list of those bytes.
+fn leading(s: &[u8], n: usize, most: usize, kind: Kind) -> usize
+    ensures { result ≡ length (take_while (holds kind) (take most (drop n s.now))) }
 {
     s.iter()
         .skip(n)
@@ -97,24 +105,31 @@ pub fn value(digits: &[u8]) -> usize
     ensures number { (s : List ℕ) (n k : ℕ) → k ≤ 4 → digits.now ≡ part s n (digits_at k s n) → result ≡ number_at k s n }
 {
     let mut value = 0;
-    for digit in digits.iter().take(4) {
+    for digit in &digits[0..digits.len().min(4)] {
         value = value * 10 + digit.saturating_sub(b'0') as usize;
     }
     value
+}
+
+// How many bytes of the word, from its first on, stand at n.
+fn common(s: &[u8], n: usize, word: &[u8]) -> usize
+    ensures { result ≡ length (take_while (λ pair. pair.1 == pair.0) (zip word.now (drop n s.now))) }
+{
+    word.iter()
+        .zip(s.iter().skip(n))
+        .take_while(|(b, there)| there == b)
+        .count()
 }
 
 // The place behind these bytes, where they stand at n.
 pub fn literal(s: &[u8], n: usize, word: &[u8]) -> Result<usize, Fault>
     ensures { result ≡ literal_at word.now s.now n }
 {
-    let mut at = n;
-    for b in word {
-        if !stands(s, at, *b) {
-            return Err(misfit(at));
-        }
-        at += 1;
+    let long = common(s, n, word);
+    if long < word.len() {
+        return Err(misfit(n + long));
     }
-    Ok(at)
+    Ok(n + long)
 }
 
 // Where the bytes from `at` up to `end` end without their trailing blanks.

@@ -7,168 +7,98 @@ use Rattle.grammar.specs.Expressions.{repeat_mark}
 use Rattle.expressions.specs.Lays.{parsed_as}
 use Rattle.tokens.proofs.Items.{stands_below, passes_below}
 use Rattle.expressions.proofs.Atoms.{group_is, atom_quote, atom_group, atom_one, piece_is, branch_is, alternation_is, closed_open, closed_shut, extended_joins}
-use Rattle.expressions.proofs.Growing.{Code, grown_start, grown_turn, grown_stop, grown_fails, grown_counted, past_lays, lays_by, joined_steps, choice_steps, marked_steps, gives_by, moves_on}
+use Rattle.expressions.proofs.Growing.{Code, grown_start, grown_turn, grown_stop, grown_fails, grown_counted, past_lays, lays_by, joined_steps, choice_steps, marked_steps, gives_by, gives_fault, then_fault, moves_on}
 use Rattle.expressions.proofs.+alternation_alternative_atom_branch_extended_group_piece.Goals as goal
 
-pub alternation-returns-in_err-all : goal.alternation-returns-in_err-all
-alternation-returns-in_err-all t c =
+pub alternation-returns-in_err-all-clause-gives : goal.alternation-returns-in_err-all-clause-gives
+alternation-returns-in_err-all-clause-gives t c =
     let s = c.args.s.now in
     let i = inside c.args.depth s in
-    let p = err_from_is_err_and c.from_residual.result c.from_residual.ensures.1 in
-    let r = c.in_err-all.ensures in
-    rw (p.1, p.2) record { gives = alternation_is i s c.args.at c.args.used ∙ ap (λ (o : Out Parsed). then o (many (bar_ahead s) (alternation_more i s) (length s))) r.gives; moves = tt }
+    gives_fault _ _ _ (err_from_is_err_and c.from_residual.result c.from_residual.ensures.1) (then_fault (many (bar_ahead s) (alternation_more i s) (length s)) (alternation_is i s c.args.at c.args.used) c.in_err-all.ensures.gives)
 
-pub alternation-loop-all-init : goal.alternation-loop-all-init
-alternation-loop-all-init t c =
-    let s = c.args.s.now in
-    let i = inside c.args.depth s in
+pub alternation-loop-work-init : goal.alternation-loop-work-init
+alternation-loop-work-init t c =
     let r = c.in_ok-all.ensures in
-    (r.moves.0, r.moves.1, grown_start s (bar_ahead s) (alternation_more i s) _ c.args.used _ _ _ _ (omega arith) (alternation_is i s c.args.at c.args.used) r.gives)
+    (r.moves.0, r.moves.1, omega arith, grown_start (omega arith) (alternation_is (inside c.args.depth c.args.s.now) c.args.s.now c.args.at c.args.used) r.gives)
 
-pub alternation-returns-in_err-all-2 : goal.alternation-returns-in_err-all-2
-alternation-returns-in_err-all-2 t c =
-    let s = c.args.s.now in
-    let i = inside c.args.depth s in
-    let p = err_from_is_err_and c.from_residual-in_err-all-2.result c.from_residual-in_err-all-2.ensures.1 in
-    let r = c.in_err-all-2.ensures in
-    let v = c.loop-all.invariant in
-    let on = c.loop-all-test.ensures in
-    rw (p.1, p.2) record { gives = grown_fails s (bar_ahead s) (alternation_more i s) _ c.args.used _ c.loop-all.work c.loop-all.work c.loop-all.all _ v.2 (λ t. on) r.gives v.1; moves = tt }
+pub alternation-returns-in_err-all-2-clause-gives : goal.alternation-returns-in_err-all-2-clause-gives
+alternation-returns-in_err-all-2-clause-gives t c =
+    let v = c.loop-work.invariant in
+    gives_fault _ _ _ (err_from_is_err_and c.from_residual-in_err-all-2.result c.from_residual-in_err-all-2.ensures.1)
+    (grown_fails v.3 (λ t. c.loop-work-test.ensures) c.in_err-all-2.ensures.gives v.1)
 
-pub alternation-loop-all-preserved : goal.alternation-loop-all-preserved
-alternation-loop-all-preserved t c =
-    let s = c.args.s.now in
-    let i = inside c.args.depth s in
+pub alternation-loop-work-preserved : goal.alternation-loop-work-preserved
+alternation-loop-work-preserved t c =
     let r = c.in_ok-all-2.ensures in
-    let v = c.loop-all.invariant in
-    let on = c.loop-all-test.ensures in
-    (omega arith, r.moves.1, grown_turn s (bar_ahead s) (alternation_more i s) _ c.args.used _ c.loop-all.work _ c.loop-all.all _ v.2 (λ t. on) r.gives r.moves.0 v.1)
+    let v = c.loop-work.invariant in
+    (omega arith, r.moves.1, omega arith, grown_turn v.3 (λ t. c.loop-work-test.ensures) r.gives r.moves.0 v.1)
 
-pub alternation-returns : goal.alternation-returns
-alternation-returns t c =
+pub alternation-returns-clause-gives : goal.alternation-returns-clause-gives
+alternation-returns-clause-gives t c = grown_stop c.loop-work.invariant.3 (λ t. c.loop-work-test.ensures) c.in_ok-all.ensures.gives.kept
+
+pub alternative-returns-clause-gives : goal.alternative-returns-clause-gives
+alternative-returns-clause-gives t c =
+    let s = c.args.s.now in
+    let all = c.args.all in
+    choice_steps (branch_by (inside c.args.depth s) s (all.at + 1) all.used) c.args.base c.args.work.now _ c.args.work.now all _ _ c.in_ok-more.ensures.gives c.choice.ensures refl refl
+
+pub atom-returns-then-stands-clause-gives : goal.atom-returns-then-stands-clause-gives
+atom-returns-then-stands-clause-gives t c =
+    gives_by c.args.used c.args.work.now c.quote.new.work c.quote.result (atom_quote (inside c.args.depth c.args.s.now) c.args.s.now c.args.at c.args.used c.if-stands.ensures) c.quote.ensures.gives
+
+pub atom-returns-then-stands-2-clause-gives : goal.atom-returns-then-stands-2-clause-gives
+atom-returns-then-stands-2-clause-gives t c =
+    gives_by c.args.used c.args.work.now c.group.new.work c.group.result (atom_group (inside c.args.depth c.args.s.now) c.args.s.now c.args.at c.args.used c.if-stands.ensures c.if-stands-2.ensures) c.group.ensures.gives
+
+pub atom-returns-clause-gives : goal.atom-returns-clause-gives
+atom-returns-clause-gives t c =
+    gives_by c.args.used c.args.work.now c.one.new.work c.one.result (atom_one (inside c.args.depth c.args.s.now) c.args.s.now c.args.at c.args.used c.if-stands.ensures c.if-stands-2.ensures) c.one.ensures.gives
+
+pub branch-returns-in_err-all-clause-gives : goal.branch-returns-in_err-all-clause-gives
+branch-returns-in_err-all-clause-gives t c =
     let s = c.args.s.now in
     let i = inside c.args.depth s in
-    let v = c.loop-all.invariant in
-    let off = c.loop-all-test.ensures in
-    record {
-      gives = grown_stop s (bar_ahead s) (alternation_more i s) _ c.args.used c.args.work.now _ c.loop-all.work c.loop-all.all v.2 (λ t. off) c.in_ok-all.ensures.gives.kept;
-      moves = (v.0, v.1);
-    }
+    gives_fault _ _ _ (err_from_is_err_and c.from_residual.result c.from_residual.ensures.1) (then_fault (many (branch_goes_on s) (branch_more i s) (length s)) (branch_is i s c.args.at c.args.used) c.in_err-all.ensures.gives)
 
-pub alternative-returns : goal.alternative-returns
-alternative-returns t c =
-    let s = c.args.s.now in
-    let i = inside c.args.depth s in
-    let m = c.in_ok-more.ensures in
-    record {
-      gives = choice_steps (branch_by i s (c.args.all.now.at + 1) c.args.all.now.used) c.args.base c.args.work.now _ c.args.work.now c.args.all.now _ _ m.gives c.choice.ensures refl refl;
-      moves = (omega arith, m.moves.1);
-    }
-
-pub atom-returns-then-stands : goal.atom-returns-then-stands
-atom-returns-then-stands t c =
-    let s = c.args.s.now in
-    let i = inside c.args.depth s in
-    record {
-      gives = gives_by c.args.used c.args.work.now c.quote.new.work c.quote.result (atom_quote i s c.args.at c.args.used c.if-stands.ensures) c.quote.ensures.gives;
-      moves = moves_on c.quote.result c.args.at (length s) c.quote.ensures.moves;
-    }
-
-pub atom-returns-then-stands-2 : goal.atom-returns-then-stands-2
-atom-returns-then-stands-2 t c =
-    let s = c.args.s.now in
-    let i = inside c.args.depth s in
-    record {
-      gives = gives_by c.args.used c.args.work.now c.group.new.work c.group.result (atom_group i s c.args.at c.args.used c.if-stands.ensures c.if-stands-2.ensures) c.group.ensures.gives;
-      moves = c.group.ensures.moves;
-    }
-
-pub atom-returns : goal.atom-returns
-atom-returns t c =
-    let s = c.args.s.now in
-    let i = inside c.args.depth s in
-    record {
-      gives = gives_by c.args.used c.args.work.now c.one.new.work c.one.result (atom_one i s c.args.at c.args.used c.if-stands.ensures c.if-stands-2.ensures) c.one.ensures.gives;
-      moves = c.one.ensures.moves;
-    }
-
-pub branch-returns-in_err-all : goal.branch-returns-in_err-all
-branch-returns-in_err-all t c =
-    let s = c.args.s.now in
-    let i = inside c.args.depth s in
-    let p = err_from_is_err_and c.from_residual.result c.from_residual.ensures.1 in
-    let r = c.in_err-all.ensures in
-    rw (p.1, p.2) record { gives = branch_is i s c.args.at c.args.used ∙ ap (λ (o : Out Parsed). then o (many (branch_goes_on s) (branch_more i s) (length s))) r.gives; moves = tt }
-
-pub branch-loop-all-init : goal.branch-loop-all-init
-branch-loop-all-init t c =
-    let s = c.args.s.now in
-    let i = inside c.args.depth s in
+pub branch-loop-work-init : goal.branch-loop-work-init
+branch-loop-work-init t c =
     let r = c.in_ok-all.ensures in
-    (r.moves.0, r.moves.1, grown_start s (branch_goes_on s) (branch_more i s) _ c.args.used _ _ _ _ (omega arith) (branch_is i s c.args.at c.args.used) r.gives)
+    (r.moves.0, r.moves.1, grown_start (omega arith) (branch_is (inside c.args.depth c.args.s.now) c.args.s.now c.args.at c.args.used) r.gives)
+
+pub branch-returns-in_err-all-2-clause-gives : goal.branch-returns-in_err-all-2-clause-gives
+branch-returns-in_err-all-2-clause-gives t c =
+    let v = c.loop-work.invariant in
+    gives_fault _ _ _ (err_from_is_err_and c.from_residual-in_err-all-2.result c.from_residual-in_err-all-2.ensures.1)
+    (grown_fails v.2 (λ t. c.loop-work-test.ensures) c.in_err-all-2.ensures.gives v.1)
+
+pub branch-loop-work-preserved : goal.branch-loop-work-preserved
+branch-loop-work-preserved t c =
+    let r = c.in_ok-all-2.ensures in
+    let v = c.loop-work.invariant in
+    (omega arith, r.moves.1, grown_turn v.2 (λ t. c.loop-work-test.ensures) r.gives r.moves.0 v.1)
+
+pub branch-returns-clause-gives : goal.branch-returns-clause-gives
+branch-returns-clause-gives t c = grown_stop c.loop-work.invariant.2 (λ t. c.loop-work-test.ensures) c.in_ok-all.ensures.gives.kept
 
 pub branch-extended-requires : goal.branch-extended-requires
-branch-extended-requires t c =
+branch-extended-requires t c = (omega arith, grown_counted c.loop-work.invariant.2)
+
+pub extended-returns-clause-gives : goal.extended-returns-clause-gives
+extended-returns-clause-gives t c =
     let s = c.args.s.now in
     let i = inside c.args.depth s in
-    (omega arith, ((omega arith), grown_counted s (branch_goes_on s) (branch_more i s) _ c.args.used _ c.loop-all.work c.loop-all.all c.loop-all.invariant.2))
+    let all = c.args.all in
+    λ e h. lays_by (extended_joins i s (parsed_as all e) c.if-stands.ensures) (joined_steps (piece_by i s all.at all.used) c.args.base c.args.work.now _ _ all _ _ c.in_ok-more.ensures.gives c.then.ensures (omega arith) e h)
 
-pub branch-returns-in_err-all-2 : goal.branch-returns-in_err-all-2
-branch-returns-in_err-all-2 t c =
+pub group-returns-in_err-inner-clause-gives : goal.group-returns-in_err-inner-clause-gives
+group-returns-in_err-inner-clause-gives t c =
     let s = c.args.s.now in
-    let i = inside c.args.depth s in
-    let p = err_from_is_err_and c.from_residual-in_err-all-2.result c.from_residual-in_err-all-2.ensures.1 in
-    let r = c.in_err-all-2.ensures in
-    let v = c.loop-all.invariant in
-    let on = c.loop-all-test.ensures in
-    rw (p.1, p.2) record { gives = grown_fails s (branch_goes_on s) (branch_more i s) _ c.args.used _ c.loop-all.work c.loop-all.work c.loop-all.all _ v.2 (λ t. on) r.gives v.1; moves = tt }
+    gives_fault _ _ _ (err_from_is_err_and c.from_residual.result c.from_residual.ensures.1) (then_fault (closed_group s) (group_is c.args.depth s c.args.at c.args.used c.if-depth-eq0.false) c.in_err-inner.ensures.gives)
 
-pub branch-loop-all-preserved : goal.branch-loop-all-preserved
-branch-loop-all-preserved t c =
-    let s = c.args.s.now in
-    let i = inside c.args.depth s in
-    let r = c.in_ok-all-2.ensures in
-    let v = c.loop-all.invariant in
-    let on = c.loop-all-test.ensures in
-    (omega arith, r.moves.1, grown_turn s (branch_goes_on s) (branch_more i s) _ c.args.used _ c.loop-all.work _ c.loop-all.all _ v.2 (λ t. on) r.gives r.moves.0 v.1)
-
-pub branch-returns : goal.branch-returns
-branch-returns t c =
-    let s = c.args.s.now in
-    let i = inside c.args.depth s in
-    let v = c.loop-all.invariant in
-    let off = c.loop-all-test.ensures in
-    record {
-      gives = grown_stop s (branch_goes_on s) (branch_more i s) _ c.args.used c.args.work.now _ c.loop-all.work c.loop-all.all v.2 (λ t. off) c.in_ok-all.ensures.gives.kept;
-      moves = (v.0, v.1);
-    }
-
-pub extended-returns : goal.extended-returns
-extended-returns t c =
-    let s = c.args.s.now in
-    let i = inside c.args.depth s in
-    let all = c.args.all.now in
-    let m = c.in_ok-more.ensures in
-    record {
-      gives = λ e h. lays_by (extended_joins i s (parsed_as all e) c.if-stands.ensures) (joined_steps (piece_by i s all.at all.used) c.args.base c.args.work.now _ _ all _ _ m.gives c.joined.ensures (omega arith) e h);
-      moves = (omega arith, omega arith);
-    }
-
-pub group-returns-in_err-inner : goal.group-returns-in_err-inner
-group-returns-in_err-inner t c =
-    let s = c.args.s.now in
-    let p = err_from_is_err_and c.from_residual.result c.from_residual.ensures.1 in
-    let r = c.in_err-inner.ensures in
-    rw (p.1, p.2) record { gives = group_is c.args.depth s c.args.at c.args.used c.if-depth-eq0.false ∙ ap (λ (o : Out Parsed). then o (closed_group s)) r.gives; moves = tt }
-
-pub group-returns-then-not-stands : goal.group-returns-then-not-stands
-group-returns-then-not-stands t c =
-    let s = c.args.s.now in
+pub group-returns-then-not-stands-clause-gives : goal.group-returns-then-not-stands-clause-gives
+group-returns-then-not-stands-clause-gives t c =
     let l = c.in_ok-inner.ensures.gives in
-    record {
-      gives = closed_open c.args.depth s c.args.at c.args.used (parsed_as c.in_ok-inner.inner l.tree) c.if-depth-eq0.false l.is c.if-not-stands.ensures ∙ ap (λ (f : Fault). Err f) (sym c.refused-then-not-stands.ensures);
-      moves = tt;
-    }
+    closed_open c.args.depth c.args.s.now c.args.at c.args.used (parsed_as c.in_ok-inner.inner l.tree) c.if-depth-eq0.false l.is c.if-not-stands.ensures ∙ ap (λ (f : Fault). Err f) (sym c.misfit.ensures)
 
 pub group-returns : goal.group-returns
 group-returns t c =
@@ -182,20 +112,16 @@ group-returns t c =
       moves = (omega (arith, at), omega (arith, at, stands_below s inner.at 41 on));
     }
 
-pub piece-returns-in_err-all : goal.piece-returns-in_err-all
-piece-returns-in_err-all t c =
+pub piece-returns-in_err-all-clause-gives : goal.piece-returns-in_err-all-clause-gives
+piece-returns-in_err-all-clause-gives t c =
     let s = c.args.s.now in
-    let i = inside c.args.depth s in
-    let p = err_from_is_err_and c.from_residual.result c.from_residual.ensures.1 in
-    let r = c.in_err-all.ensures in
-    rw (p.1, p.2) record { gives = piece_is i s c.args.at c.args.used ∙ ap (λ (o : Out Parsed). then o (many (marked s) (repeated_more s) (length s))) r.gives; moves = tt }
+    gives_fault _ _ _ (err_from_is_err_and c.from_residual.result c.from_residual.ensures.1)
+    (then_fault (many (marked s) (repeated_more s) (length s)) (piece_is (inside c.args.depth s) s c.args.at c.args.used) c.in_err-all.ensures.gives)
 
 pub piece-loop-mark-init : goal.piece-loop-mark-init
 piece-loop-mark-init t c =
-    let s = c.args.s.now in
-    let i = inside c.args.depth s in
     let r = c.in_ok-all.ensures in
-    (r.moves.0, r.moves.1, grown_start s (marked s) (repeated_more s) _ c.args.used _ _ _ _ (omega arith) (piece_is i s c.args.at c.args.used) r.gives)
+    (r.moves.0, r.moves.1, omega arith, grown_start (omega arith) (piece_is (inside c.args.depth c.args.s.now) c.args.s.now c.args.at c.args.used) r.gives)
 
 pub piece-loop-mark-preserved : goal.piece-loop-mark-preserved
 piece-loop-mark-preserved t c =
@@ -205,13 +131,7 @@ piece-loop-mark-preserved t c =
     let m = c.in-Some.ensures in
     let below = passes_below repeat_mark s all.at (sym m.0) in
     let j = c.marked-all.ensures in
-    (omega (arith, j.at), omega (arith, j.at, below), grown_turn s (marked s) (repeated_more s) _ c.args.used _ c.loop-mark.work _ all _ v.2 (λ e. sym m.0) (marked_steps s c.in-Some.mark c.args.used c.loop-mark.work _ all _ m.1 (omega arith) j) (omega (arith, j.at)) v.1)
+    (omega (arith, j.at), omega (arith, j.at, below), omega arith, grown_turn v.3 (λ e. sym m.0) (marked_steps s c.in-Some.mark c.args.used c.loop-mark.work _ all _ m.1 (omega arith) j) (omega (arith, j.at)) v.1)
 
-pub piece-returns : goal.piece-returns
-piece-returns t c =
-    let s = c.args.s.now in
-    let v = c.loop-mark.invariant in
-    record {
-      gives = grown_stop s (marked s) (repeated_more s) _ c.args.used c.args.work.now _ c.loop-mark.work c.loop-mark.all v.2 (λ e. sym c.in_default.ensures) c.in_ok-all.ensures.gives.kept;
-      moves = (v.0, v.1);
-    }
+pub piece-returns-clause-gives : goal.piece-returns-clause-gives
+piece-returns-clause-gives t c = grown_stop c.loop-mark.invariant.3 (λ e. sym c.in_default.ensures) c.in_ok-all.ensures.gives.kept

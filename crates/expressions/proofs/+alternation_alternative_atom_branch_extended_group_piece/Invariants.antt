@@ -1,4 +1,4 @@
-use Rattle.std.proofs.Common.{◌+◌, ◌-◌, ◌*◌, ◌<◌, ◌≤◌, length}
+use Rattle.std.proofs.Common.{◌≡◌, ◌+◌, ◌-◌, ◌*◌, ◌<◌, ◌≤◌, length}
 use Rattle.grammar.specs.Expressions.{inside, marked, repeated_more, piece_by, branch_goes_on, branch_more, branch_by, bar_ahead, alternation_more, alternation_by}
 use Rattle.expressions.proofs.Growing.{Grown}
 use Rattle.expressions.proofs.+alternation_alternative_atom_branch_extended_group_piece.Given as goal
@@ -24,25 +24,25 @@ decreases-atom l = 8 * l.depth + 1
 abbrev pub decreases-group : goal.decreases-group
 decreases-group l = 8 * l.depth
 
-abbrev pub invariant-alternation-loop-all : goal.invariant-alternation-loop-all
-invariant-alternation-loop-all l =
-    (l.at < l.all.at) × (l.all.at ≤ length l.s)
+abbrev pub invariant-alternation-loop-work : goal.invariant-alternation-loop-work
+invariant-alternation-loop-work l =
+    (l.at < l.all.at) × (l.all.at ≤ length l.s) × (length l.work ≡ 1024)
     × Grown l.s (bar_ahead l.s) (alternation_more (inside l.depth l.s) l.s) (alternation_by (inside l.depth l.s) l.s l.at l.used) l.used l.initial.work l.work l.all
 
-abbrev pub decreases-alternation-loop-all : goal.decreases-alternation-loop-all
-decreases-alternation-loop-all l = length l.s - l.all.at
+abbrev pub decreases-alternation-loop-work : goal.decreases-alternation-loop-work
+decreases-alternation-loop-work l = length l.s - l.all.at
 
-abbrev pub invariant-branch-loop-all : goal.invariant-branch-loop-all
-invariant-branch-loop-all l =
+abbrev pub invariant-branch-loop-work : goal.invariant-branch-loop-work
+invariant-branch-loop-work l =
     (l.at < l.all.at) × (l.all.at ≤ length l.s)
     × Grown l.s (branch_goes_on l.s) (branch_more (inside l.depth l.s) l.s) (branch_by (inside l.depth l.s) l.s l.at l.used) l.used l.initial.work l.work l.all
 
-abbrev pub decreases-branch-loop-all : goal.decreases-branch-loop-all
-decreases-branch-loop-all l = length l.s - l.all.at
+abbrev pub decreases-branch-loop-work : goal.decreases-branch-loop-work
+decreases-branch-loop-work l = length l.s - l.all.at
 
 abbrev pub invariant-piece-loop-mark : goal.invariant-piece-loop-mark
 invariant-piece-loop-mark l =
-    (l.at < l.all.at) × (l.all.at ≤ length l.s)
+    (l.at < l.all.at) × (l.all.at ≤ length l.s) × (length l.work ≡ 1024)
     × Grown l.s (marked l.s) (repeated_more l.s) (piece_by (inside l.depth l.s) l.s l.at l.used) l.used l.initial.work l.work l.all
 
 abbrev pub decreases-piece-loop-mark : goal.decreases-piece-loop-mark

@@ -7,7 +7,7 @@ loop-k-preserved c = (
   omega arith,
   λ e se start.
       again c.args.interval e c.args.base c.extra-last.result c.args.size c.args.x.now c.formed-all.new.work c.loop-k.work _ _ _ c.loop-k.k (c.loop-k.k - 1) c.loop-k.all _ _ _
-      (omega arith) se (subst (λ (h : ℕ). c.args.base + suc h * c.args.size ≤ 512) (sym c.extra-last.ensures) c.requires.1) (omega arith) (omega arith) (c.loop-k.invariant.1 e se start) c.copied-copy-in-loop-k.ensures c.formed-next.ensures c.sequence-all.ensures,
+      (omega arith) se (subst (λ (h : ℕ). c.args.base + suc h * c.args.size ≤ 512) (sym c.extra-last.ensures) c.requires) (omega arith) (omega arith) (c.loop-k.invariant.1 e se start) c.copied-copy-in-loop-k.ensures c.formed-next.ensures c.sequence-all.ensures,
 )
 
 pub returns : goal.returns

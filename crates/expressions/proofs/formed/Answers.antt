@@ -1,8 +1,6 @@
-use Rattle.expressions.proofs.Copying.{placed_plain, placed_marked}
+use Rattle.std.proofs.Common.{arith}
+use Rattle.expressions.proofs.Copying.{placed_marked}
 use Rattle.expressions.proofs.formed.Goals as goal
 
 pub returns-in-Some : goal.returns-in-Some
-returns-in-Some c = placed_marked c.args.interval c.args.k _ _ _ _ _ c.in-Some.ensures c.requires c.repeats.ensures
-
-pub returns-in-None : goal.returns-in-None
-returns-in-None c = placed_plain c.args.interval c.args.k _ _ c.in-None.ensures
+returns-in-Some c = placed_marked c.args.interval c.args.k _ _ _ _ _ c.in-Some.ensures (omega arith) c.repeats.ensures

@@ -3,10 +3,6 @@ use Rattle.grammar.specs.Expressions.{quoted_byte}
 use Rattle.expressions.proofs.Growing.{joined_steps}
 use Rattle.expressions.proofs.quoted_more.Goals as goal
 
-pub returns : goal.returns
-returns c =
-    let m = c.in_ok-more.ensures in
-    record {
-      gives = joined_steps (quoted_byte c.args.s.now c.args.all.now.at c.args.all.now.used) c.args.base c.args.work.now _ _ c.args.all.now _ _ m.gives c.joined.ensures (omega arith);
-      moves = (omega arith, omega arith);
-    }
+pub returns-clause-gives : goal.returns-clause-gives
+returns-clause-gives c =
+    joined_steps (quoted_byte c.args.s.now c.args.all.at c.args.all.used) c.args.base c.args.work.now _ _ c.args.all _ _ c.in_ok-more.ensures.gives c.then.ensures (omega arith)

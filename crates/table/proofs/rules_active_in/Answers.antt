@@ -1,9 +1,14 @@
-use Rattle.std.proofs.Common.{ℕ, below_more}
-use Rattle.table.specs.Memory.{ActiveIn, rule_at}
+use Rattle.std.proofs.Common.{rules}
+use borrow.Author.Tests.{tests}
+use Rattle.std.proofs.lemmas.Iterator.{YieldsList-from_slice, YieldsList-from_take}
+use Rattle.loaded.specs.declared.Rule.{Rule}
+use Rattle.table.specs.Memory.{ActiveIn}
+use Rattle.table.proofs.Active.{none_active}
+use Rattle.table.proofs.Each.{all_of_first}
 use Rattle.table.proofs.rules_active_in.Goals as goal
 
-pub loop-i-preserved : goal.loop-i-preserved
-loop-i-preserved c =
+pub returns : goal.returns
+returns c =
     let l = c.args.loaded.now in
-    let P : ℕ → Type 0 = λ j. ActiveIn l.condition_count (rule_at l j).conditions.words in
-    below_more P c.loop-i.i c.loop-i.invariant c.if-not-active_in.ensures
+    all_of_first (λ (r : Rule). ActiveIn l.condition_count r.conditions.words) (none_active l.condition_count) _ c.all.ensures.ran (λ x q k. search (rules, tests)) (λ x q k. search (rules, tests))
+    l.rules l.rule_count (YieldsList-from_take l.rule_count (YieldsList-from_slice l.rules (cc)) (cc))

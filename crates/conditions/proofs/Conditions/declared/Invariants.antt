@@ -4,7 +4,7 @@ use Rattle.conditions.proofs.Lists.{Declaring}
 use Rattle.conditions.proofs.Conditions.declared.Given as goal
 
 abbrev pub invariant-loop-read : goal.invariant-loop-read
-invariant-loop-read l = Declaring l.s l.inclusive (declared_from l.initial.read.conditions l.initial.read.at) (declared_from l.read.conditions l.read.at)
+invariant-loop-read l = Declaring l.s l.inclusive (declared_from l.initial.read.value l.initial.read.next) (declared_from l.read.value l.read.next)
 
 abbrev pub decreases-loop-read : goal.decreases-loop-read
-decreases-loop-read l = length l.s - l.read.at
+decreases-loop-read l = length l.s - l.read.next

@@ -1,12 +1,9 @@
-use Rattle.std.proofs.Common.{arith}
-use Rattle.conditions.proofs.Names.{named_is, unknown_is}
+use Rattle.std.proofs.Common.{Err, ap, ◌∙◌, arith}
+use Rattle.conditions.proofs.Names.{located_some, located_none, named_is, unknown_is}
 use Rattle.conditions.proofs.Conditions.named.Goals as goal
 
-pub returns-in-Some : goal.returns-in-Some
-returns-in-Some c =
-    let a = c.in_ok-spelt.ensures in
-    let f = c.in-Some.ensures in
-    record { is = named_is _ _ _ _ a _ f; small = omega (arith, f.0); moves = (a.moves, a.within) }
+pub returns-in-Some-clause-is : goal.returns-in-Some-clause-is
+returns-in-Some-clause-is c = named_is _ c.args.self.now _ _ c.in_ok-spelt.ensures _ (located_some c.in_ok-spelt.spelt.value _ _ _ (omega arith) _ c.in-Some.ensures)
 
-pub returns-in-None : goal.returns-in-None
-returns-in-None c = record { is = unknown_is _ _ _ _ c.in_ok-spelt.ensures c.in-None.ensures; small = tt; moves = tt }
+pub returns-in-None-clause-is : goal.returns-in-None-clause-is
+returns-in-None-clause-is c = ap Err c.refused.ensures ∙ unknown_is _ c.args.self.now _ _ c.in_ok-spelt.ensures (located_none c.in_ok-spelt.spelt.value _ _ _ (omega arith) c.in-None.ensures)

@@ -1,8 +1,0 @@
-use Rattle.std.proofs.Common.{◌≡◌, ℕ, ◌<◌, ◌≤◌, get_or}
-use lib.Bits.{bit_or}
-use Rattle.bits.proofs.Bits.add_all.Given as goal
-
-abbrev pub invariant-loop-i : goal.invariant-loop-i
-invariant-loop-i g l =
-    ((k : ℕ) → k < l.i → get_or l.self.words k 0 ≡ bit_or (get_or l.initial.self.words k 0) (get_or l.other.words k 0))
-    × ((k : ℕ) → l.i ≤ k → get_or l.self.words k 0 ≡ get_or l.initial.self.words k 0)

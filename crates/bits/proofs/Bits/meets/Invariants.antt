@@ -1,6 +1,0 @@
-use Rattle.std.proofs.Common.{◌≡◌, ℕ, ◌<◌, get_or}
-use lib.Bits.{bit_and}
-use Rattle.bits.proofs.Bits.meets.Given as goal
-
-abbrev pub invariant-loop-i : goal.invariant-loop-i
-invariant-loop-i g l = (k : ℕ) → k < l.i → bit_and (get_or l.self.words k 0) (get_or l.other.words k 0) ≡ 0

@@ -1,6 +1,0 @@
-use Rattle.std.proofs.Common.{◌≡◌, ℕ, ◌+◌, ◌≤◌, max, ◌&&◌, ltb, leb}
-use Rattle.bits.specs.Set.{has}
-use Rattle.brackets.proofs.range.Given as goal
-
-abbrev pub invariant-loop-b : goal.invariant-loop-b
-invariant-loop-b l = (l.b ≤ max l.low (l.high + 1)) × ((j : ℕ) → has l.set.words j ≡ (leb l.low j && ltb j l.b))
