@@ -66,7 +66,10 @@ fn unit(text: &[u8], at: usize) -> Option<Read<u8>>
     if value == b'~' {
         return escape(text, at + 1);
     }
-    Some(Read { value, next: at + 1 })
+    Some(Read {
+        value,
+        next: at + 1,
+    })
 }
 
 // Whether `~` and this bracket stand at `at`.
