@@ -20,11 +20,15 @@ use Rattle.conditions.specs.declared.Conditions.{Conditions}
 use Rattle.conditions.specs.Spelt.{NameAt}
 use Rattle.conditions.specs.Known.{known, declared_from}
 
+-- what a name means is its bytes
+abbrev same : List ℕ → List ℕ
+same n = n
+
 apart : (a b : List ℕ) → (a ≡ b → ⊥) → bytes_eq a b ≡ false
 apart a b h = false_from_ne_true (bytes_eq a b) (λ e. h ((bytes_eq-Decides a b).0 e))
 
 module _ (x : List ℕ) where
-  pub numbered_none : (xs : List (List ℕ)) (n : ℕ) → Fresh (λ y. y) xs (min n (length xs)) x → numbered (take n xs) x ≡ None
+  pub numbered_none : (xs : List (List ℕ)) (n : ℕ) → Fresh same xs (min n (length xs)) x → numbered (take n xs) x ≡ None
   numbered_none xs zero h = refl
   numbered_none [] (suc n) h = refl
   numbered_none (y ∷ ys) (suc n) h =
@@ -32,7 +36,7 @@ module _ (x : List ℕ) where
       let i : numbered (take n ys) x ≡ None = numbered_none ys n (λ k d l u. h (suc k) d (omega arith) (omega arith)) in
       rw (e, i)
 
-  pub numbered_some : (xs : List (List ℕ)) (n k : ℕ) → First (λ y. y) xs (min n (length xs)) x k → numbered (take n xs) x ≡ Some k
+  pub numbered_some : (xs : List (List ℕ)) (n k : ℕ) → First same xs (min n (length xs)) x k → numbered (take n xs) x ≡ Some k
   numbered_some xs zero k f = let z : k < min 0 (length xs) = f.0 in absurd (omega arith)
   numbered_some [] (suc n) k f = let z : k < min (suc n) 0 = f.0 in absurd (omega arith)
   numbered_some (y ∷ ys) (suc n) zero f =
@@ -45,12 +49,12 @@ module _ (x : List ℕ) where
       rw (e, i)
 
   -- the same of a slice of them, which is the first m
-  module _ (xs : List (List ℕ)) (m n : ℕ) (same : m ≡ n) where
-    pub located_none : Fresh (λ y. y) (take m xs) (length (take m xs)) x → numbered (take n xs) x ≡ None
-    located_none h = rw (take_all (length (take m xs)) (take m xs) (omega arith), same) at (numbered_none (take m xs) (length (take m xs)) (λ k d l u. h k d l (omega arith)))
+  module _ (xs : List (List ℕ)) (m n : ℕ) (e : m ≡ n) where
+    pub located_none : Fresh same (take m xs) (length (take m xs)) x → numbered (take n xs) x ≡ None
+    located_none h = rw (take_all (length (take m xs)) (take m xs) (omega arith), e) at (numbered_none (take m xs) (length (take m xs)) (λ k d l u. h k d l (omega arith)))
 
-    pub located_some : (k : ℕ) → First (λ y. y) (take m xs) (length (take m xs)) x k → numbered (take n xs) x ≡ Some k
-    located_some k f = rw (take_all (length (take m xs)) (take m xs) (omega arith), same) at (numbered_some (take m xs) (length (take m xs)) k (omega (arith, f.0), f.1, f.2))
+    pub located_some : (k : ℕ) → First same (take m xs) (length (take m xs)) x k → numbered (take n xs) x ≡ Some k
+    located_some k f = rw (take_all (length (take m xs)) (take m xs) (omega arith), e) at (numbered_some (take m xs) (length (take m xs)) k (omega (arith, f.0), f.1, f.2))
 
 module _ (s : List ℕ) (c : Conditions) (n : ℕ) (x : Read (List ℕ)) (a : NameAt s n x) where
   -- the place in the list is the number that the grammar gives
@@ -71,7 +75,7 @@ module _ (s : List ℕ) (c : Conditions) (n : ℕ) (x : Read (List ℕ)) (a : Na
       let i = numbered_at None f in
       rw (e, i)
 
-  pub again_is : (inclusive : Bool) (k : ℕ) → First (λ y. y) c.names (min c.count (length c.names)) x.value k → refused DeclaredAgain n ≡ declare_at s inclusive (known c) n
+  pub again_is : (inclusive : Bool) (k : ℕ) → First same c.names (min c.count (length c.names)) x.value k → refused DeclaredAgain n ≡ declare_at s inclusive (known c) n
   again_is inclusive k f =
       let e = a.some in
       let i = numbered_at (Some k) (numbered_some x.value c.names c.count k f) in
@@ -81,7 +85,7 @@ module _ (s : List ℕ) (c : Conditions) (n : ℕ) (x : Read (List ℕ)) (a : Na
   unfolding known
   known_count = length-take c.count c.names
 
-  pub passed_is : (inclusive : Bool) → length c.names ≡ 8 → min c.count (length c.names) ≡ length c.names → Fresh (λ y. y) c.names (min c.count (length c.names)) x.value → refused LimitPassed n ≡ declare_at s inclusive (known c) n
+  pub passed_is : (inclusive : Bool) → length c.names ≡ 8 → min c.count (length c.names) ≡ length c.names → Fresh same c.names (min c.count (length c.names)) x.value → refused LimitPassed n ≡ declare_at s inclusive (known c) n
   passed_is inclusive l m f =
       let e = a.some in
       let i = numbered_at None (numbered_none x.value c.names c.count f) in
@@ -97,7 +101,7 @@ module _ (s : List ℕ) (c : Conditions) (n : ℕ) (x : Read (List ℕ)) (a : Na
         let t : take d.count d.names ≡ take c.count c.names ++ (x.value ∷ []) = ap (λ (k : ℕ). take k d.names) q ∙ ap (take (m + 1)) e ∙ take_more_set c.names m x.value lt ∙ ap (λ (k : ℕ). take k c.names ++ (x.value ∷ [])) j in
         t ∙ ap (λ (t : List ℕ). take c.count c.names ++ (t ∷ [])) a.text
 
-    pub added_is : length c.names ≡ 8 → m ≡ min c.count (length c.names) → min c.count (length c.names) < length c.names → Fresh (λ y. y) c.names (min c.count (length c.names)) x.value
+    pub added_is : length c.names ≡ 8 → m ≡ min c.count (length c.names) → min c.count (length c.names) < length c.names → Fresh same c.names (min c.count (length c.names)) x.value
         → d.count ≡ m + 1 → d.names ≡ set c.names (min c.count (length c.names)) x.value → ((j : ℕ) → has d.inclusive.words j ≡ (has c.inclusive.words j || (inclusive && eqb j m))) → Ok (declared_from d x.next) ≡ declare_at s inclusive (known c) n
     unfolding known
     added_is l q lt f t e h =
