@@ -30,13 +30,7 @@ fn worded(s: &[u8], n: usize, word: &[u8], step: Step) -> Result<Read<Step>, Fau
 }
 
 // The number at n, which has to be within its bounds, and what closes it.
-fn numeral(
-    s: &[u8],
-    n: usize,
-    low: usize,
-    high: usize,
-    behind: &[u8],
-) -> Result<Read<usize>, Fault>
+fn numeral(s: &[u8], n: usize, low: usize, high: usize, behind: &[u8]) -> Result<Read<usize>, Fault>
     requires { 0 < length behind.now }
     ensures is { (make : ℕ → Step) → made_by make result ≡ numeral_at s.now low high make behind.now n }
     ensures most { IfOk result (λ x. x.value ≤ high) }
@@ -46,7 +40,7 @@ fn numeral(
         return Err(misfit(n));
     };
     let value = tokens::value(digits);
-    if value < low || value > high {
+    if !(low..=high).contains(&value) {
         return Err(refused(Refusal::OutOfBounds, n));
     }
     let next = literal(s, n + digits.len(), behind)?;
@@ -111,6 +105,7 @@ pub fn action(s: &[u8], n: usize, conditions: &Conditions) -> Result<Steps, Faul
         return nothing_behind(s, n + 1);
     }
     let mut read = Reading::start(n).more(s, conditions)?;
+    // A `while`: each turn reads where the one before ended, and may refuse.
     while read.next < s.len() {
         read = read.more(s, conditions)?;
     }

@@ -3,11 +3,10 @@ ghost use Rattle.std.specs.Prelude.{◌≡◌, ◌<◌, ◌≤◌, false, length
 ghost use Rattle.grammar.specs.Actions.{stage_after, past_blanks};
 ghost use Rattle.actions.specs.Given.{most};
 
+use crate::{Steps, begin, mark, more_or_less, worded};
 use conditions::Conditions;
 use grammar::{Fault, Read, Stage, Step, misfit};
 use tokens::{Kind, span};
-
-use crate::{Steps, begin, mark, more_or_less, worded};
 
 // The steps read so far, what may follow them, and the place behind them.
 #[derive(Clone, Copy)]

@@ -10,7 +10,7 @@ pub const STEPS: usize = 10;
 // The steps of an action, and None behind them. No Vec: the library has no heap.
 #[derive(Clone, Copy)]
 pub struct Steps {
-    pub list: [Option<Step>; 10],
+    pub list: [Option<Step>; STEPS],
     pub count: usize,
     pub ghost counted: { length (given list count) ≡ count },
     pub ghost padded: { list ≡ padded (given list count) },
@@ -23,7 +23,7 @@ impl Steps {
         ensures { taken result ≡ [] }
     {
         Steps {
-            list: [None; 10],
+            list: [None; STEPS],
             count: 0,
         }
     }

@@ -2,12 +2,12 @@
 // the place of the first fault, then its line and column with the reason in words, that line, and a caret under the place.
 #![tactic(auto)]
 
-use anyhow::anyhow;
+use anyhow::bail;
 use bits::{Bits, PositionSet};
 use grammar::Fault;
 use loaded::Loaded;
-use report::{caret, describe, locate, number_of, shown_line};
-use rulefile::{Counts, WORK_SETS, read_rules};
+use report::{Caret, ShownLine, locate};
+use rulefile::{WORK_SETS, read_rules};
 use std::fs;
 use std::io::ErrorKind;
 
@@ -20,28 +20,13 @@ fn rules_file(rt: &HostRuntime) -> anyhow::Result<Vec<u8>> {
     }
 }
 
-fn summarize(rt: &HostRuntime, counts: Counts) -> anyhow::Result<()> {
-    let rules = counts.rules;
-    let conditions = counts.conditions;
-    let positions = counts.positions;
-    println!(rt; "{rules} rules, {conditions} conditions, {positions} positions")?;
-    Ok(())
-}
-
 fn explain(rt: &HostRuntime, file: &[u8], fault: Fault) -> anyhow::Result<()> {
-    let number = number_of(fault.refusal);
-    let place = fault.place;
-    println!(rt; "load {number} {place}")?;
+    let Fault { refusal, place } = fault;
+    println!(rt; "load {} {place}", u8::from(refusal))?;
     let location = locate(file, place);
-    let line = location.line;
-    let column = location.column;
-    let why = describe(fault.refusal);
-    println!(rt; "rules.l:{line}:{column}: {why}")?;
-    println!(rt;
-        "{}",
-        shown_line(rt.alloc(), &file[location.start..location.end])?
-    )?;
-    println!(rt; "{}", caret(rt.alloc(), column)?)?;
+    println!(rt; "rules.l:{location}: {refusal}")?;
+    println!(rt; "{}", ShownLine(&file[location.start..location.end]))?;
+    println!(rt; "{}", Caret(location.column))?;
     Ok(())
 }
 
@@ -50,10 +35,11 @@ fn main(rt: HostRuntime) -> anyhow::Result<()> {
     let mut work: Vec<PositionSet> = vec![in rt.alloc(); Bits::empty(); WORK_SETS]?;
     let mut loaded = Loaded::zeros();
     match read_rules(file.as_slice(), &mut loaded, work.as_mut_slice()) {
-        Ok(counts) => summarize(&rt, counts),
+        Ok(counts) => println!(rt; "{counts}")?,
         Err(fault) => {
             explain(&rt, file.as_slice(), fault)?;
-            Err(anyhow!("rules.l is refused"))
+            bail!("rules.l is refused");
         }
     }
+    Ok(())
 }

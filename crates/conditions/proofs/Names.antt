@@ -1,17 +1,17 @@
 -- Names as they are found and declared, as the grammar has them.
-use Rattle.std.proofs.Common.{◌≡◌, ℕ, zero, suc, ◌+◌, ◌/◌, ◌<◌, min, Bool, true, false, ◌&&◌, ◌||◌, eqb, ltb, List, [], ◌∷◌, ◌++◌, map, length, take, set, Some, None, Ok, codes, Option, sym, refl, ap, ◌∙◌, inl, inr, arith}
+use Rattle.std.proofs.Common.{◌≡◌, ℕ, zero, suc, ◌+◌, ◌/◌, ◌<◌, min, Bool, true, false, ◌&&◌, ◌||◌, eqb, ltb, List, [], ◌∷◌, ◌++◌, map, length, take, set, Some, None, Ok, codes, Option, sym, refl, ap, ◌∙◌, arith}
 use mathlib.Core.Path.{fun_ext}
 use Rattle.std.proofs.lemmas.List.{length-map, length-take, take_all, take_more_set, map_push}
-use Rattle.std.proofs.lemmas.Bool.{cases_Bool, ne_eqb, lt-ltb, le-ltb}
+use Rattle.std.proofs.lemmas.Bool.{false_from_ne_true, ne_eqb, lt-ltb, le-ltb}
+use Rattle.std.proofs.Math.Bool.{and-true}
 use Rattle.std.proofs.lemmas.Slice.Eq.{bytes_eq-Decides}
 use Rattle.std.specs.Str.{bytes_eq}
 use Rattle.bits.specs.Set.{has}
-use Rattle.bits.specs.declared.Bits.{Bits}
 use Rattle.finder.specs.declared.name.Name.{Name}
 use Rattle.finder.specs.Placed.{Fresh, First}
 use Rattle.grammar.specs.declared.Read.{Read}
 use Rattle.grammar.specs.declared.Refusal.TheVariants.{UnknownName, DeclaredAgain, LimitPassed}
-use Rattle.grammar.specs.Outcome.{Out, refused}
+use Rattle.grammar.specs.Outcome.{refused}
 use Rattle.grammar.specs.Bytes.{part, name_length}
 use Rattle.grammar.specs.Conditions as grammar
 use Rattle.grammar.specs.Conditions.{only_initial, numbered, condition_at, declare_at}
@@ -22,7 +22,7 @@ use Rattle.conditions.specs.Spelt.{text, NameAt}
 use Rattle.conditions.specs.Known.{known, declared_from}
 
 apart : (a b : List ℕ) → (a ≡ b → ⊥) → bytes_eq a b ≡ false
-apart a b h = elim (cases_Bool (bytes_eq a b)) [ inl e ↦ absurd (h ((bytes_eq-Decides a b).0 e)) | inr e ↦ e ]
+apart a b h = false_from_ne_true (bytes_eq a b) (λ e. h ((bytes_eq-Decides a b).0 e))
 
 module _ (x : Name) where
   pub numbered_none : (xs : List Name) (n : ℕ) → Fresh text xs (min n (length xs)) x → numbered (map text (take n xs)) (text x) ≡ None
@@ -53,14 +53,6 @@ module _ (x : Name) where
     pub located_some : (k : ℕ) → First text (take m xs) (length (take m xs)) x k → numbered (map text (take n xs)) (text x) ≡ Some k
     located_some k f = rw (take_all (length (take m xs)) (take m xs) (omega arith), same) at (numbered_some (take m xs) (length (take m xs)) k (omega (arith, f.0), f.1, f.2))
 
--- how many conditions there are
-names_count : (xs : List Name) (n : ℕ) → length (map text (take n xs)) ≡ min n (length xs)
-names_count xs n = length-map (take n xs) text ∙ length-take n xs
-
-same_declared : (ns ms : List (List ℕ)) (f g : ℕ → Bool) (i j : ℕ) → ns ≡ ms → f ≡ g → i ≡ j
-    → ◌≡◌ {A = Out (Read grammar.Conditions)} (Ok (record { value = record { names = ns; inclusive = f }; next = i })) (Ok (record { value = record { names = ms; inclusive = g }; next = j }))
-same_declared ns ms f g i j p q r = rw (p, q, r)
-
 module _ (s : List ℕ) (c : Conditions) (n : ℕ) (x : Read Name) (a : NameAt s n x) where
   -- the place in the list is the number that the grammar gives
   numbered_at : (o : Option ℕ) → numbered (map text (take c.count c.names)) (text x.value) ≡ o → numbered (known c).names (part s n (name_length s n)) ≡ o
@@ -88,7 +80,7 @@ module _ (s : List ℕ) (c : Conditions) (n : ℕ) (x : Read Name) (a : NameAt s
 
   known_count : length (known c).names ≡ min c.count (length c.names)
   unfolding known
-  known_count = names_count c.names c.count
+  known_count = length-map (take c.count c.names) text ∙ length-take c.count c.names
 
   pub passed_is : (inclusive : Bool) → length c.names ≡ 8 → min c.count (length c.names) ≡ length c.names → Fresh text c.names (min c.count (length c.names)) x.value → refused LimitPassed n ≡ declare_at s inclusive (known c) n
   passed_is inclusive l m f =
@@ -117,7 +109,7 @@ module _ (s : List ℕ) (c : Conditions) (n : ℕ) (x : Read Name) (a : NameAt s
         let r : m ≡ length (known c).names = q ∙ sym known_count in
         let v : (known d).inclusive ≡ (λ j. (known c).inclusive j || (inclusive && eqb j (length (known c).names))) = fun_ext (λ j. h j ∙ ap (λ (k : ℕ). (known c).inclusive j || (inclusive && eqb j k)) r) in
         let o = a.next in
-        rw (p, i, b) (same_declared _ _ _ _ _ _ w v o)
+        rw (p, i, b) (cc)
 
 -- the name is all of what is copied, since it has no more than 24 bytes
 pub name_is : (s : List ℕ) (n : ℕ) (t : List ℕ) (p : Part s n (name_length s n) t) (x : Read Name) → text x.value ≡ take 24 t → x.next ≡ n + length t → NameAt s n x
@@ -135,14 +127,10 @@ name_is s n t p x e m =
 pub initial_is : (x : Name) (xs : List Name) (words : List ℕ) → text x ≡ codes "INITIAL" → has words ≡ (λ j. eqb j 0) → ◌≡◌ {A = grammar.Conditions} (record { names = map text (take 1 (x ∷ xs)); inclusive = has words }) only_initial
 initial_is x xs words t i = rw (t, i)
 
-always : (b a : Bool) → a ≡ true → (b && a) ≡ b
-always true a e = e
-always false a e = refl
-
 -- a set of one condition, and one with one more
 module _ (k : ℕ) (words : List ℕ) (small : k < 64) where
   fits : (j : ℕ) → (eqb j k && ltb (k / 64) 1) ≡ eqb j k
-  fits j = always (eqb j k) (ltb (k / 64) 1) (lt-ltb _ _ (omega arith))
+  fits j = let e : ltb (k / 64) 1 ≡ true = lt-ltb _ _ (omega arith) in rw e (and-true (eqb j k))
 
   pub alone : ((j : ℕ) → has words j ≡ (eqb j k && ltb (k / 64) 1)) → has words ≡ (λ j. eqb j k)
   alone h = fun_ext (λ j. h j ∙ fits j)

@@ -16,7 +16,7 @@ pub const CONDITIONS: usize = 8;
 // The declared conditions in the order of their numbers; INITIAL is 0. No Vec: the library has no heap.
 #[derive(Clone, Copy)]
 pub struct Conditions {
-    names: [Name; 8],
+    names: [Name; CONDITIONS],
     count: usize,
     inclusive: ConditionSet,
     ghost few: { count ≤ 8 },
@@ -55,7 +55,7 @@ impl Conditions {
     pub fn initial() -> Conditions
         ensures { known result ≡ only_initial }
     {
-        let mut names = [Name::blank(); 8];
+        let mut names = [Name::blank(); CONDITIONS];
         names[0] = Name::of(b"INITIAL");
         Conditions {
             names,
@@ -97,6 +97,7 @@ impl Conditions {
             value: Bits::only(first.value as usize),
             next: first.next,
         };
+        // A `while`: each turn reads where the one before ended, and may refuse.
         while stands(s, picked.next, b',') {
             let more = self.named(s, picked.next + 1)?;
             picked.value.insert(more.value as usize);
@@ -161,6 +162,7 @@ impl Conditions {
         ensures { declares result ≡ declared_at s.now inclusive (declared_from self n) }
     {
         let mut read = self.declare_behind(s, n, inclusive)?;
+        // A `while`, as in `list`.
         while read.next < s.len() {
             read = read.value.declare_behind(s, read.next, inclusive)?;
         }

@@ -1,9 +1,8 @@
 // Names of at most 24 bytes.
 ghost use Rattle.std.specs.Prelude.{◌≡◌, [], take};
 
-use std::marker::Model;
-
 use crate::Same;
+use std::marker::Model;
 
 // The first `len` of the bytes are the name. The others are 0, so that equal names have equal bytes.
 #[derive(Clone, Copy, PartialEq, Eq)]

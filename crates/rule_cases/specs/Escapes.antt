@@ -1,6 +1,6 @@
 -- Escaped text: what is meant at a place.
 use Rattle.std.specs.Prelude.{ℕ, ◌+◌, ◌-◌, ◌*◌, Bool, cond, ◌&&◌, List, length, Some, None, Option, ◌==◌, nat_le, nat_lt, slice_index}
-use Rattle.rule_cases.specs.declared.escaped.Meant.{Meant}
+use Rattle.grammar.specs.declared.Read.{Read}
 
 abbrev pub within : ℕ → ℕ → ℕ → Bool
 within low high b = nat_le low b && nat_le b high
@@ -22,31 +22,31 @@ abbrev pub named_by : ℕ → Option ℕ
 named_by b = cond (b == 110) (Some 10) (cond (b == 116) (Some 9) (cond (b == 115) (Some 32) (cond (b == 126) (Some 126) None)))
 
 -- a byte that is meant by what ends before n
-abbrev pub meant : ℕ → ℕ → Option Meant
-meant n b = Some (record { byte = b; next = n })
+abbrev pub meant : ℕ → ℕ → Option (Read ℕ)
+meant n b = Some (record { value = b; next = n })
 
-abbrev pub before : ℕ → Option ℕ → Option Meant
+abbrev pub before : ℕ → Option ℕ → Option (Read ℕ)
 before n (Some b) = meant n b
 before n None = None
 
-abbrev pub paired : ℕ → Option ℕ → Option ℕ → Option Meant
+abbrev pub paired : ℕ → Option ℕ → Option ℕ → Option (Read ℕ)
 paired n (Some high) (Some low) = meant n (high * 16 + low)
 paired n (Some high) None = None
 paired n None low = None
 
 -- the byte of the two hexadecimal digits at n
-abbrev pub hexadecimal_at : List ℕ → ℕ → Option Meant
+abbrev pub hexadecimal_at : List ℕ → ℕ → Option (Read ℕ)
 hexadecimal_at s n = cond (nat_lt (n + 1) (length s)) (paired (n + 2) (digit_of (slice_index s n)) (digit_of (slice_index s (n + 1)))) None
 
 -- behind a `~`, n being the place of the letter
-abbrev pub escape_at : List ℕ → ℕ → Option Meant
+abbrev pub escape_at : List ℕ → ℕ → Option (Read ℕ)
 escape_at s n =
     cond (nat_lt n (length s))
     (cond (slice_index s n == 120) (hexadecimal_at s (n + 1)) (before (n + 1) (named_by (slice_index s n))))
     None
 
 -- the byte that is meant at n
-abbrev pub unit_at : List ℕ → ℕ → Option Meant
+abbrev pub unit_at : List ℕ → ℕ → Option (Read ℕ)
 unit_at s n =
     cond (nat_lt n (length s))
     (cond (slice_index s n == 126) (escape_at s (n + 1)) (meant (n + 1) (slice_index s n)))

@@ -4,22 +4,9 @@ ghost use Rattle.std.specs.Prelude.{◌≡◌, ◌+◌, ◌<◌, ◌≤◌, true
 ghost use Rattle.rule_cases.specs.Escapes.{digit_of, named_by, hexadecimal_at, escape_at, unit_at, bracket_at, stands};
 ghost use Rattle.rule_cases.specs.Runs.{Counts, Added, Run, Means};
 
-use anyhow::anyhow;
+use anyhow::{Context, ensure};
+use grammar::Read;
 use std::alloc::Global;
-
-// A byte that is meant, and the place behind what says so.
-#[derive(Clone, Copy)]
-struct Meant {
-    byte: u8,
-    next: usize,
-}
-
-// How often a run is repeated, and the place of the `|` behind the count.
-#[derive(Clone, Copy)]
-struct Counted {
-    times: usize,
-    bar: usize,
-}
 
 // The value of a hexadecimal digit.
 fn digit(b: u8) -> Option<u8>
@@ -46,47 +33,47 @@ fn named(letter: u8) -> Option<u8>
 }
 
 // The byte of the two hexadecimal digits at `at`.
-fn hexadecimal(text: &[u8], at: usize) -> Option<Meant>
+fn hexadecimal(text: &[u8], at: usize) -> Option<Read<u8>>
     ensures { result ≡ hexadecimal_at text.now at }
 {
     let high = digit(*text.get(at)?)?;
     let low = digit(*text.get(at + 1)?)?;
-    Some(Meant {
-        byte: high * 16 + low,
+    Some(Read {
+        value: high * 16 + low,
         next: at + 2,
     })
 }
 
 // What is meant by a `~` with the letter at `at` behind it.
-fn escape(text: &[u8], at: usize) -> Option<Meant>
+fn escape(text: &[u8], at: usize) -> Option<Read<u8>>
     ensures { result ≡ escape_at text.now at }
 {
     let letter = *text.get(at)?;
     if letter == b'x' {
         return hexadecimal(text, at + 1);
     }
-    Some(Meant {
-        byte: named(letter)?,
+    Some(Read {
+        value: named(letter)?,
         next: at + 1,
     })
 }
 
 // The byte that is meant at `at`, by itself or by an escape.
-fn unit(text: &[u8], at: usize) -> Option<Meant>
+fn unit(text: &[u8], at: usize) -> Option<Read<u8>>
     ensures { result ≡ unit_at text.now at }
 {
-    let byte = *text.get(at)?;
-    if byte == b'~' {
+    let value = *text.get(at)?;
+    if value == b'~' {
         return escape(text, at + 1);
     }
-    Some(Meant { byte, next: at + 1 })
+    Some(Read { value, next: at + 1 })
 }
 
 // Whether `~` and this bracket stand at `at`.
 fn bracket(text: &[u8], at: usize, b: u8) -> bool
     ensures { result ≡ bracket_at text.now at b }
 {
-    at < text.len() && text.len() - at >= 2 && text[at] == b'~' && text[at + 1] == b
+    text.get(at) == Some(&b'~') && text.get(at + 1) == Some(&b)
 }
 
 // Adds the bytes that are meant from `from` on, up to a bracket or the text's end, and says where that is.
@@ -97,29 +84,29 @@ fn units(text: &[u8], from: usize, out: &mut Vec<u8>) -> anyhow::Result<usize>
 {
     let mut at = from;
     while at < text.len() && !bracket(text, at, b'[') && !bracket(text, at, b']') {
-        let Some(meant) = unit(text, at) else {
-            return Err(anyhow!("an escape is cut off or not known"));
-        };
-        out.push(meant.byte)?;
+        let meant = unit(text, at).context("an escape is cut off or not known")?;
+        out.push(meant.value)?;
         at = meant.next;
     }
     Ok(at)
 }
 
-// The count at `from`, up to the `|` behind it: at most 9,999.
-fn count(text: &[u8], from: usize) -> Option<Counted>
-    ensures { IfSome result (λ k. Counts text.now from k.bar k.times × (stands text.now k.bar 124 ≡ true) × (from ≤ k.bar)) }
+// The count at `from`, at most 9,999, and the place of the `|` behind it.
+fn count(text: &[u8], from: usize) -> Option<Read<usize>>
+    ensures { IfSome result (λ k. Counts text.now from k.next k.value × (stands text.now k.next 124 ≡ true) × (from ≤ k.next)) }
 {
     let mut times = 0;
-    for at in from..text.len() {
-        let b = text[at];
-        if b == b'|' {
-            return Some(Counted { times, bar: at });
+    for (n, b) in text.get(from..)?.iter().enumerate() {
+        match *b {
+            b'|' => {
+                return Some(Read {
+                    value: times,
+                    next: from + n,
+                });
+            }
+            b @ b'0'..=b'9' if times <= 999 => times = times * 10 + (b - b'0') as usize,
+            _ => return None,
         }
-        if !b.is_ascii_digit() || times > 999 {
-            return None;
-        }
-        times = times * 10 + (b - b'0') as usize;
     }
     None
 }
@@ -129,15 +116,11 @@ fn run(heap: Global, text: &[u8], from: usize, out: &mut Vec<u8>) -> anyhow::Res
     ensures within { IfOk result (λ m. (from < m) × (m ≤ length text.now)) }
     ensures run { IfOk result (λ m. Run text.now from m out.old.items out.new.items) }
 {
-    let Some(count) = count(text, from) else {
-        return Err(anyhow!("a run has no count"));
-    };
+    let count = count(text, from).context("a run has no count")?;
     let mut bytes = Vec::new(heap);
-    let end = units(text, count.bar + 1, &mut bytes)?;
-    if !bracket(text, end, b']') {
-        return Err(anyhow!("a run is not closed"));
-    }
-    for _ in 0..count.times {
+    let end = units(text, count.next + 1, &mut bytes)?;
+    ensure!(bracket(text, end, b']'), "a run is not closed");
+    for _ in 0..count.value {
         out.extend_from_slice(bytes.as_slice())?;
     }
     Ok(end + 2)
@@ -150,9 +133,10 @@ pub fn decode(heap: Global, text: &[u8]) -> anyhow::Result<Vec<u8>>
     let mut out = Vec::new(heap);
     let mut at = units(text, 0, &mut out)?;
     while at < text.len() {
-        if !bracket(text, at, b'[') {
-            return Err(anyhow!("a run is closed that was not opened"));
-        }
+        ensure!(
+            bracket(text, at, b'['),
+            "a run is closed that was not opened"
+        );
         let behind = run(heap, text, at + 2, &mut out)?;
         at = units(text, behind, &mut out)?;
     }

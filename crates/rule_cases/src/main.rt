@@ -2,14 +2,13 @@
 // name, and what the file has, or the number and the place of its first fault.
 #![tactic(auto)]
 
-use anyhow::anyhow;
+use anyhow::Context;
 use bits::{Bits, PositionSet};
 
 mod escaped;
 
 use escaped::decode;
 use loaded::Loaded;
-use report::number_of;
 use rulefile::{WORK_SETS, read_rules};
 use std::fs;
 
@@ -17,16 +16,9 @@ use std::fs;
 fn show(rt: &HostRuntime, name: &str, file: &[u8], work: &mut [PositionSet]) -> anyhow::Result<()> {
     let mut loaded = Loaded::zeros();
     match read_rules(file, &mut loaded, work) {
-        Ok(counts) => {
-            let rules = counts.rules;
-            let conditions = counts.conditions;
-            let positions = counts.positions;
-            println!(rt; "{name}: {rules} rules, {conditions} conditions, {positions} positions")?;
-        }
+        Ok(counts) => println!(rt; "{name}: {counts}")?,
         Err(fault) => {
-            let number = number_of(fault.refusal);
-            let place = fault.place;
-            println!(rt; "{name}: load {number} {place}")?;
+            println!(rt; "{name}: load {} {}", u8::from(fault.refusal), fault.place)?;
         }
     }
     Ok(())
@@ -36,9 +28,7 @@ fn run(rt: &HostRuntime) -> anyhow::Result<()> {
     let table = fs::read_to_string(rt, "cases.txt")?;
     let mut work: Vec<PositionSet> = vec![in rt.alloc(); Bits::empty(); WORK_SETS]?;
     for line in table.lines() {
-        let Some((name, text)) = line.split_once('\t') else {
-            return Err(anyhow!("a case has no tab"));
-        };
+        let (name, text) = line.split_once('\t').context("a case has no tab")?;
         let file = decode(rt.alloc(), text.as_bytes())?;
         show(rt, name, file.as_slice(), work.as_mut_slice())?;
     }

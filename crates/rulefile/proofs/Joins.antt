@@ -1,7 +1,7 @@
 -- A mark with an expression behind it, and such parts joined to the pattern of a rule.
-use Rattle.std.proofs.Common.{◌≡◌, ℕ, ◌+◌, ◌/◌, ◌<◌, ◌≤◌, Bool, true, false, cond, ◌&&◌, ◌||◌, eqb, ltb, List, length, set, Some, None, Ok, Err, Option, Result, sym, refl, ap, ◌∙◌, subst, inl, inr, arith, length-set}
+use Rattle.std.proofs.Common.{◌≡◌, ℕ, ◌+◌, ◌/◌, ◌<◌, ◌≤◌, Bool, true, false, cond, ◌&&◌, ◌||◌, eqb, ltb, List, length, Some, None, Ok, Err, Option, Result, sym, refl, ap, ◌∙◌, subst, inl, inr, arith}
 use mathlib.Core.Bool.{or-false, and-true, and-false}
-use Rattle.std.proofs.lemmas.Bool.{cases_lt, lt-ltb, eq-eqb, ne_eqb}
+use Rattle.std.proofs.lemmas.Bool.{cases_lt, lt-ltb, ne_eqb}
 use Rattle.bits.specs.Set.{has}
 use Rattle.bits.specs.declared.Bits.{Bits}
 use Rattle.patterns.specs.Expression.{Expression}
@@ -10,20 +10,23 @@ use Rattle.patterns.proofs.Ranges.{takes_out, last_out, follows_out}
 use Rattle.positions.specs.declared.Fragment.{Fragment}
 use Rattle.positions.specs.Memory.{Work, member, Leaf, Linked}
 use Rattle.positions.specs.Laid.{Kept}
-use Rattle.positions.proofs.Sets.{member_set, word_room}
+use Rattle.positions.proofs.Sets.{word_room}
 use Rattle.positions.proofs.Links.{linked_order, linked_low, kept_linked}
 use Rattle.positions.proofs.Lays.{laid_leaf, kept_leaf, kept_trans, kept_less, laid_kept}
 use Rattle.expressions.specs.declared.Parsed.{Parsed}
 use Rattle.expressions.specs.Frames.{Outside}
-use Rattle.expressions.specs.Lays.{Gives}
+use Rattle.expressions.specs.Lays.{Gives, parsed_as}
 use Rattle.expressions.proofs.Frames.{kept_outside}
 use Rattle.grammar.specs.declared.Fault.{Fault}
-use Rattle.grammar.specs.Outcome.{Out}
+use Rattle.grammar.specs.Outcome.{Out, then}
 use Rattle.grammar.specs.Expressions as grammar
+use Rattle.grammar.specs.Expressions.{alternation_at}
 use Rattle.grammar.specs.File as file
-use Rattle.grammar.specs.File.{newline}
+use Rattle.grammar.specs.File.{newline, trailing_at, pattern_at}
+use Rattle.rulefile.specs.declared.RuleSets.{RuleSets}
 use Rattle.rulefile.specs.Machine.{RulesKept, pattern_size, pattern_takes, pattern_after, slash}
-use Rattle.rulefile.specs.Marks.{Unjoined, MarkedGives, Joined, PatternRead}
+use Rattle.rulefile.specs.Marks.{Unjoined, MarkedRead, MarkedGives, Keeps, Joined, TrailingRead, TrailingGives, PatternRead}
+use Rattle.rulefile.proofs.Sets.{rules_kept, rules_kept_less}
 
 -- a leaf writes the sets of its position alone
 pub outside_leaf : {w w' : Work} {p : ℕ} {bs : List ℕ} {f : Fragment} → p < 512 → Leaf w w' p bs f → Outside p (p + 1) w w'
@@ -99,153 +102,49 @@ module _ {w : Work} {a : ℕ} {e : Expression} {r : Parsed} (u : Unjoined w a e 
       }
 
 -- what was kept before the pattern was joined is kept still
-joined_kept : {a i : ℕ} {w v w' : Work} {r : Expression} {x : Option Expression} → Kept a w v → Joined a i v w' r x → Joined a i w w' r x
-joined_kept k j = record {
-  laid = j.laid;
-  kept = record {
-    bytes = λ p q h. j.kept.bytes p q h ∙ k.bytes p q h;
-    order = λ p q h. j.kept.order p q h ∙ k.order p q h;
-    starts = λ n q h. j.kept.starts n q h ∙ k.others (1024 + n) q (omega arith);
-    trails = λ n q h. j.kept.trails n q h ∙ k.others (1088 + n) q (omega arith);
-    ends = λ n q h. j.kept.ends n q h ∙ k.others (1152 + n) q (omega arith);
-    slashes = λ n q h. j.kept.slashes n q h ∙ k.others (1216 + n) q (omega arith);
-  };
-}
+pub joined_kept : {a i : ℕ} {w v w' : Work} {r : Expression} {x : Option Expression} → Kept a w v → Joined a i v w' r x → Joined a i w w' r x
+joined_kept k j = record { laid = j.laid; kept = rules_kept k j.kept }
 
--- a number for which there is room is a member once it is put in
-inserted : (ws vs : List ℕ) (n m : ℕ) → ltb (n / 64) m ≡ true
-    → ((q : ℕ) → has vs q ≡ (has ws q || (eqb q n && ltb (n / 64) m))) → (q : ℕ) → has vs q ≡ (has ws q || eqb q n)
-inserted ws vs n m room is q = rw (is q, room, and-true) refl
-
--- the only one, where there was none
-pub inserted_only : (ws vs : List ℕ) (n m : ℕ) → ltb (n / 64) m ≡ true → ((q : ℕ) → has ws q ≡ false)
-    → ((q : ℕ) → has vs q ≡ (has ws q || (eqb q n && ltb (n / 64) m))) → (q : ℕ) → has vs q ≡ eqb q n
-inserted_only ws vs n m room none is q = rw (inserted ws vs n m room is q, none q) refl
-
-pub position_room : (n : ℕ) → n < 512 → ltb (n / 64) 8 ≡ true
-position_room n h = word_room n ∙ lt-ltb n 512 h
-
--- the trail start t: the first positions f of x, and where x can be empty the end mark a
-pub trail_empty : (f s t : Bits 8) (n : Bool) (a : ℕ) → a < 512 → n ≡ true → t ≡ s
-    → ((q : ℕ) → has s.words q ≡ (has f.words q || (eqb q a && ltb (a / 64) 8))) → (q : ℕ) → has t.words q ≡ (has f.words q || (n && eqb q a))
-trail_empty f s t n a h can same is q = rw (can, same) (inserted f.words s.words a 8 (position_room a h) is q)
-
-pub trail_full : (f t : Bits 8) (n : Bool) (a : ℕ) → n ≡ false → t ≡ f → (q : ℕ) → has t.words q ≡ (has f.words q || (n && eqb q a))
-trail_full f t n a cannot same q = rw (cannot, same) (sym (or-false (has f.words q)))
-
--- memory v with the four sets of rule k written
-module _ (v : Work) (k : ℕ) (s t b d : Bits 8) (low : k < 64) (big : 4096 ≤ length v) where
-  -- two of them
-  abbrev starting : Work
-  starting = set (set v (1024 + k) s) (1088 + k) t
-
-  abbrev pub written : Work
-  written = set (set starting (1152 + k) b) (1216 + k) d
-
-  starting_is : (n q : ℕ) → member starting n q ≡ cond (eqb n (1088 + k)) (has t.words q) (cond (eqb n (1024 + k)) (has s.words q) (member v n q))
-  starting_is n q =
-      member_set (set v (1024 + k) s) (1088 + k) t n q (simp length-set (omega arith))
-      ∙ ap (cond (eqb n (1088 + k)) (has t.words q)) (member_set v (1024 + k) s n q (omega arith))
-
-  written_is : (n q : ℕ) → member written n q ≡ cond (eqb n (1216 + k)) (has d.words q) (cond (eqb n (1152 + k)) (has b.words q) (member starting n q))
-  written_is n q =
-      member_set (set starting (1152 + k) b) (1216 + k) d n q (simp length-set (omega arith))
-      ∙ ap (cond (eqb n (1216 + k)) (has d.words q)) (member_set starting (1152 + k) b n q (simp length-set (omega arith)))
-
-  -- the other two are further up
-  written_before : (n q : ℕ) → n < 1152 → member written n q ≡ member starting n q
-  written_before n q h =
-      let f = ne_eqb n (1152 + k) (λ e. omega arith) in
-      let g = ne_eqb n (1216 + k) (λ e. omega arith) in
-      rw (written_is n q, f, g) refl
-
-  starting_apart : (n q : ℕ) → (n ≡ 1024 + k → ⊥) → (n ≡ 1088 + k → ⊥) → member starting n q ≡ member v n q
-  starting_apart n q one two =
-      let f = ne_eqb n (1024 + k) one in
-      let g = ne_eqb n (1088 + k) two in
-      rw (starting_is n q, f, g) refl
-
-  written_apart : (n q : ℕ) → (n ≡ 1024 + k → ⊥) → (n ≡ 1088 + k → ⊥) → (n ≡ 1152 + k → ⊥) → (n ≡ 1216 + k → ⊥) → member written n q ≡ member v n q
-  written_apart n q one two three four =
-      let f = ne_eqb n (1152 + k) three in
-      let g = ne_eqb n (1216 + k) four in
-      rw (written_is n q, f, g) (starting_apart n q one two)
-
-  written_low : (p q : ℕ) → p < 512 → member written p q ≡ member v p q
-  written_low p q h = written_apart p q (λ e. omega arith) (λ e. omega arith) (λ e. omega arith) (λ e. omega arith)
-
-  written_order : (p q : ℕ) → p < 512 → member written (512 + p) q ≡ member v (512 + p) q
-  written_order p q h = written_apart (512 + p) q (λ e. omega arith) (λ e. omega arith) (λ e. omega arith) (λ e. omega arith)
-
-  written_starts : (q : ℕ) → member written (1024 + k) q ≡ has s.words q
-  written_starts q =
-      let f = eq-eqb (1024 + k) (1024 + k) refl in
-      let g = ne_eqb (1024 + k) (1088 + k) (λ e. omega arith) in
-      written_before (1024 + k) q (omega arith) ∙ rw (starting_is (1024 + k) q, g, f) refl
-
-  written_trails : (q : ℕ) → member written (1088 + k) q ≡ has t.words q
-  written_trails q =
-      let f = eq-eqb (1088 + k) (1088 + k) refl in
-      written_before (1088 + k) q (omega arith) ∙ rw (starting_is (1088 + k) q, f) refl
-
-  written_ends : (q : ℕ) → member written (1152 + k) q ≡ has b.words q
-  written_ends q =
-      let f = eq-eqb (1152 + k) (1152 + k) refl in
-      let g = ne_eqb (1152 + k) (1216 + k) (λ e. omega arith) in
-      rw (written_is (1152 + k) q, g, f) refl
-
-  written_slashes : (q : ℕ) → member written (1216 + k) q ≡ has d.words q
-  written_slashes q =
-      let f = eq-eqb (1216 + k) (1216 + k) refl in
-      rw (written_is (1216 + k) q, f) refl
-
-  -- they are none of a position, nor of an earlier rule
-  written_kept : {a : ℕ} {w : Work} → a ≤ 512 → Kept a w v → RulesKept a k w written
-  written_kept h kept = record {
-    bytes = λ p q t. written_low p q (omega arith) ∙ kept.bytes p q t;
-    order = λ p q t. written_order p q (omega arith) ∙ kept.order p q t;
-    starts = λ j q t. written_apart (1024 + j) q (λ e. omega arith) (λ e. omega arith) (λ e. omega arith) (λ e. omega arith) ∙ kept.others (1024 + j) q (omega arith);
-    trails = λ j q t. written_apart (1088 + j) q (λ e. omega arith) (λ e. omega arith) (λ e. omega arith) (λ e. omega arith) ∙ kept.others (1088 + j) q (omega arith);
-    ends = λ j q t. written_apart (1152 + j) q (λ e. omega arith) (λ e. omega arith) (λ e. omega arith) (λ e. omega arith) ∙ kept.others (1152 + j) q (omega arith);
-    slashes = λ j q t. written_apart (1216 + j) q (λ e. omega arith) (λ e. omega arith) (λ e. omega arith) (λ e. omega arith) ∙ kept.others (1216 + j) q (omega arith);
-  }
+-- the marks of positions have room
+alone : (ws : List ℕ) (n : ℕ) → n < 512 → ((q : ℕ) → has ws q ≡ (eqb q n && ltb (n / 64) 8)) → (q : ℕ) → has ws q ≡ eqb q n
+alone ws n h is q = let room = word_room n ∙ lt-ltb n 512 h in rw (is q, room, and-true) refl
 
 -- r alone, its last positions linked to the end mark
-module _ (w v : Work) (a k : ℕ) (e : Expression) (r : Parsed) (ends t : Bits 8)
-    (low : k < 64) (big : 4096 ≤ length w) (big' : 4096 ≤ length v)
-    (linked : Linked w v r.part.last.words ends.words) (is : (q : ℕ) → has ends.words q ≡ eqb q a)
-    (none : (q : ℕ) → has t.words q ≡ false) (u : Unjoined w a e r) where
-  alone_kept : Kept (a + 1) w v
-  alone_kept = kept_linked w v r.part.last.words ends.words linked (a + 1) (omega (arith, u.laid.within)) (no_last u)
+module _ (w v w' : Work) (a k : ℕ) (e : Expression) (r : Parsed) (s : RuleSets) (low : a < 512) (big : 1024 ≤ length w)
+    (linked : Linked w v r.part.last.words s.ends.words) (keeps : Keeps k v w' s) (u : Unjoined w a e r)
+    (starts : s.firsts ≡ r.part.first) (put : (q : ℕ) → has s.ends.words q ≡ (eqb q a && ltb (a / 64) 8))
+    (no-trail : (q : ℕ) → has s.trail.words q ≡ false) (no-slash : (q : ℕ) → has s.slashes.words q ≡ false) where
+  end_mark : (q : ℕ) → has s.ends.words q ≡ eqb q a
+  end_mark = alone s.ends.words a low put
 
   alone_order : (p q : ℕ) → a ≤ p → p < a + 1 + size e → member v (512 + p) q ≡ (follows e (a + 1) p q || (last e (a + 1) p && eqb q a))
   alone_order p q h l =
       let top = u.laid.within in
-      let after = linked_order w v r.part.last.words ends.words linked p q (omega arith) (omega arith) in
-      rw (after, unjoined_order u p q h l, u.laid.ends p, is q) refl
+      let after = linked_order w v r.part.last.words s.ends.words linked p q big (omega arith) in
+      rw (after, unjoined_order u p q h l, u.laid.ends p, end_mark q) refl
 
-  pub joined_alone : Joined a k w (written v k r.part.first t ends t low big') e None
+  pub joined_alone : Joined a k w w' e None
   joined_alone =
       let top = u.laid.within in
-      let f = r.part.first in
+      let linked-kept = kept_linked w v r.part.last.words s.ends.words linked (a + 1) (omega (arith, u.laid.within)) (no_last u) in
       record {
         laid = record {
           within = omega arith;
           bytes = λ p b h l c.
-              written_low v k f t ends t low big' p b (omega arith)
-              ∙ linked_low w v r.part.last.words ends.words linked p b (omega arith)
+              keeps.kept.bytes p b (omega arith)
+              ∙ linked_low w v r.part.last.words s.ends.words linked p b (omega arith)
               ∙ unjoined_bytes u p b h (omega arith) c
               ∙ sym (or-false (takes e (a + 1) p b));
           order = λ p q h l.
-              written_order v k f t ends t low big' p q (omega arith)
+              keeps.kept.order p q (omega arith)
               ∙ alone_order p q h (omega arith)
               ∙ ap (λ (z : Bool). follows e (a + 1) p q || z) (sym (or-false (last e (a + 1) p && eqb q a)));
-          starts = λ q. written_starts v k f t ends t low big' q ∙ u.laid.begins q;
-          trails = λ q. written_trails v k f t ends t low big' q ∙ none q;
-          ends = λ q. written_ends v k f t ends t low big' q ∙ is q;
-          slashes = λ q. written_slashes v k f t ends t low big' q ∙ none q;
+          starts = λ q. keeps.starts q ∙ ap (λ (f : Bits 8). has f.words q) starts ∙ u.laid.begins q;
+          trails = λ q. keeps.trails q ∙ no-trail q;
+          ends = λ q. keeps.ends q ∙ end_mark q;
+          slashes = λ q. keeps.slashes q ∙ no-slash q;
         };
-        kept = written_kept v k f t ends t low big' (omega arith) (kept_less (omega arith) alone_kept);
+        kept = rules_kept (kept_less (omega arith) linked-kept) (rules_kept_less (omega arith) keeps.kept);
       }
 
 -- r with a trailing part x, both still by themselves in w
@@ -269,98 +168,94 @@ regroup : (f h l s b z : Bool) → (((f || h) || (l && (b || s))) || z) ≡ (f |
 regroup f h l s b z = grind arith
 
 -- the last positions of r linked to what is behind it, and those of x to the end mark
-module _ (w u v : Work) (a k : ℕ) (e g : Expression) (r x : Parsed) (behind : List ℕ) (ends slashes t : Bits 8)
-    (low : k < 64) (big : 4096 ≤ length w) (big₁ : 4096 ≤ length u) (big₂ : 4096 ≤ length v)
-    (one : Linked w u r.part.last.words behind) (two : Linked u v x.part.last.words ends.words)
-    (ends-are : (q : ℕ) → has ends.words q ≡ eqb q a)
-    (trail_is : (q : ℕ) → has t.words q ≡ (has x.part.first.words q || (x.part.nullable && eqb q a))) where
-  module _ (m : Unjoined w a e r) (y : Unjoined w (slash e a) g x) (behind_is : (q : ℕ) → has behind q ≡ (has t.words q || eqb q (slash e a)))
-      (slashes-are : (q : ℕ) → has slashes.words q ≡ eqb q (slash e a)) where
-    trailing_kept : Kept (a + 1) w v
-    trailing_kept =
-        let top = m.laid.within in
-        kept_trans
-        (kept_linked w u r.part.last.words behind one (a + 1) (omega arith) (no_last m))
-        (kept_linked u v x.part.last.words ends.words two (a + 1) (omega arith) (λ p h. no_last y p (omega arith)))
-
-    trailing_low : (p q : ℕ) → p < 512 → member v p q ≡ member w p q
-    trailing_low p q h =
-        linked_low u v x.part.last.words ends.words two p q h ∙ linked_low w u r.part.last.words behind one p q h
-
-    trail_starts : (q : ℕ) → has t.words q ≡ (first g (slash e a + 1) q || (nullable g && eqb q a))
-    trail_starts q = rw (trail_is q, y.laid.begins q, y.laid.empty) refl
-
-    trailing_order : (p q : ℕ) → a ≤ p → p < a + pattern_size e (Some g) → member v (512 + p) q ≡ pattern_after e (Some g) a p q
-    trailing_order p q h l =
-        let top = y.laid.within in
-        let first-link = linked_order w u r.part.last.words behind one p q (omega arith) (omega arith) in
-        let second-link = linked_order u v x.part.last.words ends.words two p q (omega arith) (omega arith) in
-        rw (second-link, first-link, two_order m y p q h l, m.laid.ends p, y.laid.ends p, ends-are q, behind_is q, trail_starts q)
-        (regroup (follows e (a + 1) p q) (follows g (slash e a + 1) p q) (last e (a + 1) p) (eqb q (slash e a)) _ _)
-
-    trailing_joined : Joined a k w (written v k r.part.first t ends slashes low big₂) e (Some g)
-    trailing_joined =
-        let top = y.laid.within in
-        let f = r.part.first in
-        record {
-          laid = record {
-            within = omega arith;
-            bytes = λ p b h l c.
-                written_low v k f t ends slashes low big₂ p b (omega arith)
-                ∙ trailing_low p b (omega arith)
-                ∙ two_bytes m y p b h l c;
-            order = λ p q h l. written_order v k f t ends slashes low big₂ p q (omega arith) ∙ trailing_order p q h l;
-            starts = λ q. written_starts v k f t ends slashes low big₂ q ∙ m.laid.begins q;
-            trails = λ q. written_trails v k f t ends slashes low big₂ q ∙ trail_starts q;
-            ends = λ q. written_ends v k f t ends slashes low big₂ q ∙ ends-are q;
-            slashes = λ q. written_slashes v k f t ends slashes low big₂ q ∙ slashes-are q;
-          };
-          kept = written_kept v k f t ends slashes low big₂ (omega arith) (kept_less (omega arith) trailing_kept);
-        }
-
+module _ (w u v w' : Work) (a k : ℕ) (e g : Expression) (r x : Parsed) (behind : List ℕ) (s : RuleSets) (low : a < 512) (big : 1024 ≤ length w) (big' : 1024 ≤ length u)
+    (one : Linked w u r.part.last.words behind) (two : Linked u v x.part.last.words s.ends.words) (keeps : Keeps k v w' s)
+    (m : Unjoined w a e r) (after : Unjoined w r.used g x)
+    (starts : s.firsts ≡ r.part.first) (put : (q : ℕ) → has s.ends.words q ≡ (eqb q a && ltb (a / 64) 8))
+    (put' : (q : ℕ) → has s.slashes.words q ≡ (eqb q r.used && ltb (r.used / 64) 8))
+    (trail_is : (q : ℕ) → has s.trail.words q ≡ (has x.part.first.words q || (x.part.nullable && has s.ends.words q)))
+    (behind_is : (q : ℕ) → has behind q ≡ (has s.trail.words q || has s.slashes.words q)) where
   -- the slash mark is where r ends
-  pub joined_trailing : (none : List ℕ) → ((q : ℕ) → has none q ≡ false)
-      → ((q : ℕ) → has slashes.words q ≡ (has none q || (eqb q r.used && ltb (r.used / 64) 8)))
-      → ((q : ℕ) → has behind q ≡ (has t.words q || (eqb q r.used && ltb (r.used / 64) 8)))
-      → Unjoined w a e r → Unjoined w r.used g x → Joined a k w (written v k r.part.first t ends slashes low big₂) e (Some g)
-  joined_trailing none empty only put m y =
+  y : Unjoined w (slash e a) g x
+  y = subst (λ (n : ℕ). Unjoined w n g x) m.counts after
+
+  end_is : (q : ℕ) → has s.ends.words q ≡ eqb q a
+  end_is = alone s.ends.words a low put
+
+  slash_is : (q : ℕ) → has s.slashes.words q ≡ eqb q (slash e a)
+  slash_is = let top = after.laid.within in subst (λ (n : ℕ). (q : ℕ) → has s.slashes.words q ≡ eqb q n) m.counts (alone s.slashes.words r.used (omega arith) put')
+
+  trail_starts : (q : ℕ) → has s.trail.words q ≡ (first g (slash e a + 1) q || (nullable g && eqb q a))
+  trail_starts q = rw (trail_is q, y.laid.begins q, y.laid.empty, end_is q) refl
+
+  trailing_kept : Kept (a + 1) w v
+  trailing_kept =
+      let top = m.laid.within in
+      kept_trans
+      (kept_linked w u r.part.last.words behind one (a + 1) (omega arith) (no_last m))
+      (kept_linked u v x.part.last.words s.ends.words two (a + 1) (omega arith) (λ p h. no_last y p (omega arith)))
+
+  trailing_low : (p q : ℕ) → p < 512 → member v p q ≡ member w p q
+  trailing_low p q h =
+      linked_low u v x.part.last.words s.ends.words two p q h ∙ linked_low w u r.part.last.words behind one p q h
+
+  trailing_order : (p q : ℕ) → a ≤ p → p < a + pattern_size e (Some g) → member v (512 + p) q ≡ pattern_after e (Some g) a p q
+  trailing_order p q h l =
       let top = y.laid.within in
-      let room = position_room r.used (omega arith) in
-      trailing_joined m
-      (subst (λ (n : ℕ). Unjoined w n g x) m.counts y)
-      (subst (λ (n : ℕ). (q : ℕ) → has behind q ≡ (has t.words q || eqb q n)) m.counts (inserted t.words behind r.used 8 room put))
-      (subst (λ (n : ℕ). (q : ℕ) → has slashes.words q ≡ eqb q n) m.counts (inserted_only none slashes.words r.used 8 room empty only))
+      let first-link = linked_order w u r.part.last.words behind one p q big (omega arith) in
+      let second-link = linked_order u v x.part.last.words s.ends.words two p q big' (omega arith) in
+      rw (second-link, first-link, two_order m y p q h l, m.laid.ends p, y.laid.ends p, end_is q, behind_is q, trail_starts q, slash_is q)
+      (regroup (follows e (a + 1) p q) (follows g (slash e a + 1) p q) (last e (a + 1) p) (eqb q (slash e a)) _ _)
 
--- the pattern as it is read, r alone
-pub read_alone : (o : Out file.Pattern) (a k : ℕ) (w u w' : Work) (e : Expression) (r : Parsed)
-    → o ≡ file.pattern e None r.at r.used → Kept a w u → Unjoined u a e r
-    → ((e : Expression) → Unjoined u a e r → Joined a k u w' e None)
-    → PatternRead o a k w w' (record { at = r.at; used = r.used })
-read_alone o a k w u w' e r is kept m join =
-    let n = m.counts in
-    record {
-      pattern = record { expression = e; trailing = None; at = r.at; used = r.used };
-      is = is;
-      at = refl;
-      used = refl;
-      counts = omega arith;
-      joined = joined_kept kept (join e m);
-    }
+  pub joined_trailing : Joined a k w w' e (Some g)
+  joined_trailing =
+      let top = y.laid.within in
+      record {
+        laid = record {
+          within = omega arith;
+          bytes = λ p b h l c. keeps.kept.bytes p b (omega arith) ∙ trailing_low p b (omega arith) ∙ two_bytes m y p b h l c;
+          order = λ p q h l. keeps.kept.order p q (omega arith) ∙ trailing_order p q h l;
+          starts = λ q. keeps.starts q ∙ ap (λ (f : Bits 8). has f.words q) starts ∙ m.laid.begins q;
+          trails = λ q. keeps.trails q ∙ trail_starts q;
+          ends = λ q. keeps.ends q ∙ end_is q;
+          slashes = λ q. keeps.slashes q ∙ slash_is q;
+        };
+        kept = rules_kept (kept_less (omega arith) trailing_kept) (rules_kept_less (omega arith) keeps.kept);
+      }
 
--- and r with x, which is laid down behind it
-pub read_trailing : (o : Out file.Pattern) (a k at used : ℕ) (w u v w' : Work) (e g : Expression) (r x : Parsed)
-    → o ≡ file.pattern e (Some g) at used → x.at ≡ at → x.used ≡ used
-    → Kept a w u → Unjoined u a e r → Kept r.used u v → Unjoined v r.used g x
-    → ((e g : Expression) → Unjoined v a e r → Unjoined v r.used g x → Joined a k v w' e (Some g))
-    → PatternRead o a k w w' (record { at = x.at; used = x.used })
-read_trailing o a k at used w u v w' e g r x is ends counts kept m more y join =
-    let n = m.counts in
-    let l = y.counts in
-    record {
-      pattern = record { expression = e; trailing = Some g; at = at; used = used };
-      is = is;
-      at = ends;
-      used = counts;
-      counts = omega arith;
-      joined = joined_kept (kept_trans kept (kept_less (omega arith) more)) (join e g (unjoined_kept m more) y);
-    }
+-- the pattern as it is read: r, and behind it x or nothing
+module _ (s : List ℕ) (n a k : ℕ) (w u v w' : Work) (r : Parsed) (m : MarkedRead (alternation_at s n (a + 1)) a w u r) where
+  is_trailed : pattern_at s n (a + 1) ≡ trailing_at s (parsed_as r m.tree)
+  is_trailed = ap (λ (o : Out grammar.Parsed). then o (trailing_at s)) m.is
+
+  pub read_alone : (o : Option Parsed) → o ≡ None → TrailingGives (trailing_at s (parsed_as r m.tree)) m.tree r u v (Ok o)
+      → ((e : Expression) → Unjoined v a e r → Joined a k v w' e None)
+      → PatternRead (pattern_at s n (a + 1)) a k w w' (record { value = r.used; next = r.at })
+  read_alone o none gives join =
+      let c = m.unjoined.counts in
+      let t = subst (λ (z : Option Parsed). TrailingGives (trailing_at s (parsed_as r m.tree)) m.tree r u v (Ok z)) none gives in
+      let j = join m.tree (subst (λ (z : Work). Unjoined z a m.tree r) (sym t.1) m.unjoined) in
+      record {
+        pattern = record { expression = m.tree; trailing = None; at = r.at; used = r.used };
+        is = is_trailed ∙ t.0;
+        at = refl;
+        used = refl;
+        counts = omega arith;
+        joined = joined_kept m.kept (subst (λ (z : Work). Joined a k z w' m.tree None) t.1 j);
+      }
+
+  pub read_trailing : (o : Option Parsed) (x : Parsed) → o ≡ Some x → TrailingGives (trailing_at s (parsed_as r m.tree)) m.tree r u v (Ok o)
+      → ((e g : Expression) → Unjoined v a e r → Unjoined v r.used g x → Joined a k v w' e (Some g))
+      → PatternRead (pattern_at s n (a + 1)) a k w w' (record { value = x.used; next = x.at })
+  read_trailing o x some gives join =
+      let c = m.unjoined.counts in
+      let t = subst (λ (z : Option Parsed). TrailingGives (trailing_at s (parsed_as r m.tree)) m.tree r u v (Ok z)) some gives in
+      let d = t.unjoined.counts in
+      record {
+        pattern = record { expression = m.tree; trailing = Some t.tree; at = x.at; used = x.used };
+        is = is_trailed ∙ t.is;
+        at = refl;
+        used = refl;
+        counts = omega arith;
+        joined = joined_kept (kept_trans m.kept (kept_less (omega arith) t.kept)) (join m.tree t.tree (unjoined_kept m.unjoined t.kept) t.unjoined);
+      }

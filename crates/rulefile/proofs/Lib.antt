@@ -1,5 +1,7 @@
+pub mod Sets
 pub mod Joins
-pub mod Trails
-pub mod Reading
+pub mod Left
+pub mod Declaring
 pub mod Rules
 pub mod Adding
+pub mod Whole

@@ -1,26 +1,26 @@
 -- What the functions that read lines and sections say.
-use Rattle.std.specs.Prelude.{◌≡◌, ℕ, suc, ◌+◌, ◌<◌, ◌≤◌, cond, List, [], ◌∷◌, length, Some, None, Ok, Err, Option, Result, slice_set}
+use Rattle.std.specs.Prelude.{◌≡◌, ℕ, ◌+◌, ◌<◌, ◌≤◌, cond, List, [], length, replicate, Ok, Err, Result, slice_set}
 use Rattle.positions.specs.Memory.{Work}
 use Rattle.grammar.specs.declared.Fault.{Fault}
 use Rattle.grammar.specs.declared.Refusal.TheVariants.{Memory, FileTooLong, Misfit}
 use Rattle.grammar.specs.declared.Step.{Step}
 use Rattle.grammar.specs.Outcome.{Out, refused}
 use Rattle.grammar.specs.Bytes.{blank, passes, span}
-use Rattle.grammar.specs.Lines as lines
 use Rattle.grammar.specs.Conditions.{Conditions, only_initial}
 use Rattle.grammar.specs.Actions.{action_at}
 use Rattle.grammar.specs.File as file
 use Rattle.grammar.specs.File.{RuleText, RuleFile, rule_size, rule_file_of}
 use Rattle.conditions.specs.Known.{known}
+use Rattle.conditions.specs.declared.Conditions as code
 use Rattle.loaded.specs.declared.Loaded.{Loaded}
 use Rattle.loaded.specs.Zeros.{zeros}
 use Rattle.rulefile.specs.declared.RuleRead.{RuleRead}
-use Rattle.rulefile.specs.declared.FirstSection.{FirstSection}
-use Rattle.rulefile.specs.declared.TextLine.{TextLine}
+use Rattle.rulefile.specs.declared.lines.TextLines.{TextLines}
 use Rattle.rulefile.specs.declared.Progress.{Progress}
 use Rattle.rulefile.specs.declared.Counts.{Counts}
+use Rattle.rulefile.specs.Lines.{left}
 use Rattle.rulefile.specs.Machine.{PatternLaid, RulesLaid, RulesKept}
-use Rattle.rulefile.specs.Loaded.{RuleHolds, RulesHold, Holds}
+use Rattle.rulefile.specs.Loaded.{RuleHolds, RulesHold, trails_of, Holds}
 
 -- blanks, at least one, and the action
 abbrev pub steps_behind : List ℕ → Conditions → ℕ → Out (List Step)
@@ -32,6 +32,7 @@ pub record LineRead (o : Out file.RuleRead) (a i : ℕ) (w w' : Work) (r : RuleR
   pub is : o ≡ Ok (record { rule = rule; used = r.used })
   pub few : i < 64
   pub holds : RuleHolds r.rule rule
+  pub trail : r.rule.trail ≡ 0
   pub counts : r.used ≡ a + rule_size rule
   pub laid : PatternLaid w' rule.expression rule.trailing a i
   pub kept : RulesKept a i w w'
@@ -40,35 +41,14 @@ abbrev pub LineGives : Out file.RuleRead → ℕ → ℕ → Work → Work → R
 LineGives o a i w w' (Ok r) = LineRead o a i w w' r
 LineGives o a i w w' (Err e) = o ≡ Err e
 
--- k lines are enough from `at` on
-abbrev pub Enough : List ℕ → ℕ → ℕ → Type 0
-Enough file at k = length file ≤ at + k
+-- the first section ends before the lines that are left in t
+pub record FirstRead (s t : TextLines) (c : code.Conditions) : Type 0 where
+  pub same : t.file.now ≡ s.file.now
+  pub is : file.first_section s.file.now only_initial (left s) ≡ Ok (record { conditions = known c; behind = left t })
 
-abbrev pub line_of : TextLine → lines.Line
-line_of l = record { start = l.start; end = l.end }
-
--- l is the first of the lines from `at` on that are not empty
-pub record Next (file : List ℕ) (at : ℕ) (l : TextLine) : Type 0 where
-  pub some : l.start < l.end
-  pub within : l.end ≤ length file
-  pub moves : at < l.next
-  pub few : l.next ≤ suc (length file)
-  pub first : (k : ℕ) → Enough file at k → (j : ℕ) × Enough file l.next j × (lines.lines_from k file at ≡ line_of l ∷ lines.lines_from j file l.next)
-
--- or there is none
-abbrev pub NextLine : List ℕ → ℕ → Option TextLine → Type 0
-NextLine file at None = (k : ℕ) → Enough file at k → lines.lines_from k file at ≡ []
-NextLine file at (Some l) = Next file at l
-
--- the first section ends before the lines from f.next on
-pub record FirstRead (text : List ℕ) (f : FirstSection) : Type 0 where
-  pub turns : ℕ
-  pub enough : Enough text f.next turns
-  pub is : file.first_section text only_initial (lines.lines text) ≡ Ok (record { conditions = known f.conditions; behind = lines.lines_from turns text f.next })
-
-abbrev pub FirstGives : List ℕ → Result FirstSection Fault → Type 0
-FirstGives text (Ok f) = FirstRead text f
-FirstGives text (Err e) = file.first_section text only_initial (lines.lines text) ≡ Err e
+abbrev pub FirstGives : TextLines → TextLines → Result code.Conditions Fault → Type 0
+FirstGives s t (Ok c) = FirstRead s t c
+FirstGives s t (Err e) = file.first_section s.file.now only_initial (left s) ≡ Err e
 
 -- the rules so far: qs, laid down in the work memory, and in the loaded memory if that was zeros at first
 pub record SoFar (qs : List RuleText) (w : Work) (l₀ l : Loaded) (p : Progress) : Type 0 where
@@ -79,7 +59,7 @@ pub record SoFar (qs : List RuleText) (w : Work) (l₀ l : Loaded) (p : Progress
   pub room : l₀ ≡ zeros → length l.rules ≡ 64
   pub holds : l₀ ≡ zeros → RulesHold l.rules qs
   pub starts : l.starts ≡ l₀.starts
-  pub trails : l.trails ≡ l₀.trails
+  pub trails : l₀ ≡ zeros → trails_of l ≡ replicate 64 0
   pub row_count : l.row_count ≡ l₀.row_count
 
 -- one more rule, in the place behind those so far
@@ -88,7 +68,6 @@ pub record Added (s : List ℕ) (c : Conditions) (at : ℕ) (done : Progress) (w
   pub line : LineRead (file.rule_line s c done.rules at done.positions) done.positions done.rules w w' read
   pub rules : l'.rules ≡ slice_set l.rules done.rules read.rule
   pub starts : l'.starts ≡ l.starts
-  pub trails : l'.trails ≡ l.trails
   pub row_count : l'.row_count ≡ l.row_count
   pub next : p ≡ record { rules = done.rules + 1; positions = read.used }
 
@@ -96,15 +75,15 @@ abbrev pub Adds : List ℕ → Conditions → ℕ → Progress → Work → Work
 Adds s c at done w w' l l' (Ok p) = Added s c at done w w' l l' p
 Adds s c at done w w' l l' (Err e) = file.rule_line s c done.rules at done.positions ≡ Err e
 
--- the second section, from the line at `from` on
-pub record Gone (text : List ℕ) (from : ℕ) (c : Conditions) (w : Work) (l l' : Loaded) (p : Progress) : Type 0 where
+-- the second section, of the lines that are left in s
+pub record Gone (s : TextLines) (c : Conditions) (w : Work) (l l' : Loaded) (p : Progress) : Type 0 where
   pub rules : List RuleText
-  pub is : (k : ℕ) → Enough text from k → file.second_section text c [] 0 (lines.lines_from k text from) ≡ file.rule_file c rules p.positions
+  pub is : file.second_section s.file.now c [] 0 (left s) ≡ file.rule_file c rules p.positions
   pub so_far : SoFar rules w l l' p
 
-abbrev pub Goes : List ℕ → ℕ → Conditions → Work → Loaded → Loaded → Result Progress Fault → Type 0
-Goes text from c w l l' (Ok p) = Gone text from c w l l' p
-Goes text from c w l l' (Err e) = (k : ℕ) → Enough text from k → file.second_section text c [] 0 (lines.lines_from k text from) ≡ Err e
+abbrev pub Goes : TextLines → Conditions → Work → Loaded → Loaded → Result Progress Fault → Type 0
+Goes s c w l l' (Ok p) = Gone s c w l l' p
+Goes s c w l l' (Err e) = file.second_section s.file.now c [] 0 (left s) ≡ Err e
 
 -- a whole file is read
 pub record FileRead (o : Out RuleFile) (w : Work) (l : Loaded) (c : Counts) : Type 0 where

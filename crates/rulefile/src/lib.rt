@@ -1,30 +1,35 @@
 // Rule files: read whole into lent memory, or turned down with a number and a place.
 #![tactic(auto)]
 
-ghost use Rattle.std.specs.Prelude.{◌≡◌, ℕ, ◌+◌, ◌<◌, ◌≤◌, false, length, IfOk, if◌then◌else◌, Some, None};
+ghost use Rattle.std.specs.Prelude.{◌≡◌, ℕ, ◌+◌, ◌<◌, ◌≤◌, false, ◌&&◌, ◌||◌, length, if◌then◌else◌, Some, None, IfOk, IfSome};
+ghost use Rattle.bits.specs.Set.{has};
 ghost use Rattle.patterns.specs.Expression.{Expression};
 ghost use Rattle.positions.specs.Memory.{member};
 ghost use Rattle.expressions.specs.Frames.{Outside};
-ghost use Rattle.expressions.specs.Lays.{Moves as ParsedMoves};
+ghost use Rattle.expressions.specs.Lays.{parsed_as, Moves as ParsedMoves};
 ghost use Rattle.conditions.specs.Known.{known, picked as picked_of};
-ghost use Rattle.actions.specs.Steps.{does, Padded};
+ghost use Rattle.actions.specs.Steps.{does};
 ghost use Rattle.loaded.specs.Zeros.{zeros as zeros_of};
-ghost use Rattle.grammar.specs.Outcome.{fault as fault_of};
+ghost use Rattle.grammar.specs.Outcome.{Moves};
 ghost use Rattle.grammar.specs.Bytes.{stands as stands_at};
-ghost use Rattle.grammar.specs.Lines.{divides as divides_at};
 ghost use Rattle.grammar.specs.Expressions.{alternation_at};
-ghost use Rattle.grammar.specs.File.{newline as newline_of, pattern_at, starts_rule, behind_active, rule_line};
-ghost use Rattle.rulefile.specs.Marks.{Unjoined, MarkedGives, Joined, PatternGives, Moves};
-ghost use Rattle.rulefile.specs.Sections.{steps_behind, LineGives, NextLine, line_of, FirstGives, Adds, Goes, FileReads, Answers};
+ghost use Rattle.grammar.specs.File.{newline as newline_of, trailing_at, pattern_at, starts_rule, behind_active, rule_line};
+ghost use Rattle.rulefile.specs.Marks.{Unjoined, MarkedGives, Keeps, Joined, TrailingGives, PatternGives};
+ghost use Rattle.rulefile.specs.Sections.{steps_behind, LineGives, FirstGives, Adds, Goes, FileReads, Answers};
+ghost use Rattle.rulefile.specs.Shown.{shown};
+
+mod lines;
 
 use actions::{Steps, action};
-use bits::{Bits, PositionSet};
-use conditions::{Conditions, Picked};
-use expressions::{Parsed, expression};
-use grammar::{Fault, Refusal};
+use bits::{Bits, ConditionSet, PositionSet};
+use conditions::Conditions;
+use expressions::{Parsed, expression, starts_atom};
+use grammar::{Fault, Read, Refusal, misfit, refused};
+use lines::{TextLine, TextLines};
 use loaded::{Loaded, Rule};
-use positions::{POSITIONS, leaf, link};
-use tokens::{Kind, line_at, span, stands};
+use positions::{Fragment, POSITIONS, leaf, link};
+use std::fmt;
+use tokens::{Kind, passes, span, stands};
 
 // The most bytes that a rule file may have, and the most rules.
 pub const FILE_BYTES: usize = 8192;
@@ -45,18 +50,20 @@ pub const ENDS: usize = 1152;
 pub const SLASHES: usize = 1216;
 
 // How much a right file has.
-#[derive(Clone, Copy)]
+#[derive(Clone, Copy, PartialEq, Eq)]
 pub struct Counts {
     pub rules: usize,
     pub conditions: usize,
     pub positions: usize,
 }
 
-// r and what may stand behind it: the place behind both, and the positions used then.
+// The four sets that a rule has in the work memory beside those of its positions.
 #[derive(Clone, Copy)]
-struct Pattern {
-    at: usize,
-    used: usize,
+struct RuleSets {
+    firsts: PositionSet,
+    trail: PositionSet,
+    ends: PositionSet,
+    slashes: PositionSet,
 }
 
 // A rule, and the positions used with it.
@@ -66,21 +73,6 @@ struct RuleRead {
     used: usize,
 }
 
-// A line that is not empty, without its trailing blanks, and where the next one starts.
-#[derive(Clone, Copy)]
-struct TextLine {
-    start: usize,
-    end: usize,
-    next: usize,
-}
-
-// The conditions that the first section declares, and where the second begins.
-#[derive(Clone, Copy)]
-struct FirstSection {
-    conditions: Conditions,
-    next: usize,
-}
-
 // How many rules are read so far, and how many positions they use.
 #[derive(Clone, Copy)]
 struct Progress {
@@ -88,15 +80,21 @@ struct Progress {
     positions: usize,
 }
 
-fn refused(refusal: Refusal, place: usize) -> Fault
-    ensures { result ≡ fault_of refusal place }
-{
-    Fault { refusal, place }
+impl fmt::Display for Counts {
+    ghost output = { λ counts. Some (shown counts) };
+
+    fn fmt<W: fmt::Write>(&self, f: &mut fmt::Formatter<W>) -> fmt::Result {
+        write!(
+            f,
+            "{} rules, {} conditions, {} positions",
+            self.rules, self.conditions, self.positions
+        )
+    }
 }
 
 // A position that takes no byte: a mark.
-fn mark(work: &mut [PositionSet], p: usize)
-    requires { (p < 512) × (1024 ≤ length work.old) }
+fn mark(work: &mut [PositionSet; WORK_SETS], p: usize)
+    requires { p < 512 }
     ensures bytes { (b : ℕ) → member work.new p b ≡ false }
     ensures order { (q : ℕ) → member work.new (512 + p) q ≡ false }
     ensures outside { Outside p (p + 1) work.old work.new }
@@ -109,9 +107,9 @@ fn marked_expression(
     s: &[u8],
     at: usize,
     p: usize,
-    work: &mut [PositionSet],
+    work: &mut [PositionSet; WORK_SETS],
 ) -> Result<Parsed, Fault>
-    requires { (p < 512) × (1024 ≤ length work.old) }
+    requires { p < 512 }
     ensures gives { MarkedGives (alternation_at s.now at (p + 1)) p work.old work.new result }
     ensures moves { ParsedMoves result at (length s.now) }
 {
@@ -120,115 +118,138 @@ fn marked_expression(
 }
 
 // A newline behind a mark, which is the trailing part that a `$` stands for; `at` is the place behind it.
-fn marked_newline(work: &mut [PositionSet], at: usize, p: usize) -> Parsed
-    requires { (p + 1 < 512) × (1024 ≤ length work.old) }
+fn marked_newline(work: &mut [PositionSet; WORK_SETS], at: usize, p: usize) -> Parsed
+    requires { p + 1 < 512 }
     ensures at { result.at ≡ at }
     ensures used { result.used ≡ p + 2 }
     ensures unjoined { Unjoined work.new p newline_of result }
     ensures outside { Outside p (p + 2) work.old work.new }
 {
     mark(work, p);
-    let mut bytes = Bits::empty();
-    bytes.insert(b'\n' as usize);
     Parsed {
-        part: leaf(work, p + 1, &bytes),
+        part: leaf(work, p + 1, &Bits::only(b'\n' as usize)),
         at,
         used: p + 2,
     }
 }
 
+// Writes the sets of rule k.
+fn keep(work: &mut [PositionSet; WORK_SETS], k: usize, sets: &RuleSets)
+    requires { k < 64 }
+    ensures { Keeps k work.old work.new sets.now }
+{
+    work[FIRSTS + k] = sets.firsts;
+    work[TRAILS + k] = sets.trail;
+    work[ENDS + k] = sets.ends;
+    work[SLASHES + k] = sets.slashes;
+}
+
 // Behind the last positions of r comes the end mark; there is no slash mark.
-fn without_trailing(work: &mut [PositionSet], k: usize, end: usize, r: &Parsed)
-    requires { (k < 64) × ((end < 512) × (4096 ≤ length work.old)) }
+fn without_trailing(work: &mut [PositionSet; WORK_SETS], k: usize, end: usize, r: &Parsed)
+    requires { (k < 64) × (end < 512) }
     ensures { (e : Expression) → Unjoined work.old end e r.now → Joined end k work.old work.new e None }
 {
-    let mut ends = Bits::empty();
-    ends.insert(end);
+    let ends = Bits::only(end);
     link(work, &r.part.last, &ends);
-    let none = Bits::empty();
-    work[FIRSTS + k] = r.part.first;
-    work[TRAILS + k] = none;
-    work[ENDS + k] = ends;
-    work[SLASHES + k] = none;
+    let sets = RuleSets {
+        firsts: r.part.first,
+        trail: Bits::empty(),
+        ends,
+        slashes: Bits::empty(),
+    };
+    keep(work, k, &sets);
+}
+
+// Where x may begin, and where what may be empty may end.
+fn trail_start(x: &Fragment, ends: &PositionSet) -> PositionSet
+    ensures { (q : ℕ) → has result.words q ≡ (has x.now.first.words q || (x.now.nullable && has ends.now.words q)) }
+{
+    if x.nullable {
+        x.first.either(ends)
+    } else {
+        x.first
+    }
 }
 
 // Behind the last positions of r come the slash mark and the trail start, and behind those of x the end mark.
-fn with_trailing(work: &mut [PositionSet], k: usize, end: usize, r: &Parsed, x: &Parsed)
-    requires { (k < 64) × ((end < 512) × (4096 ≤ length work.old)) }
+fn with_trailing(work: &mut [PositionSet; WORK_SETS], k: usize, end: usize, r: &Parsed, x: &Parsed)
+    requires { (k < 64) × (end < 512) }
     ensures { (e g : Expression) → Unjoined work.old end e r.now → Unjoined work.old r.now.used g x.now → Joined end k work.old work.new e (Some g) }
 {
-    let mut ends = Bits::empty();
-    ends.insert(end);
-    let mut slashes = Bits::empty();
-    slashes.insert(r.used);
-    let mut trail = x.part.first;
-    if x.part.nullable {
-        trail.insert(end);
-    }
-    let mut behind = trail;
-    behind.insert(r.used);
-    link(work, &r.part.last, &behind);
+    let ends = Bits::only(end);
+    let slashes = Bits::only(r.used);
+    let trail = trail_start(&x.part, &ends);
+    link(work, &r.part.last, &trail.either(&slashes));
     link(work, &x.part.last, &ends);
-    work[FIRSTS + k] = r.part.first;
-    work[TRAILS + k] = trail;
-    work[ENDS + k] = ends;
-    work[SLASHES + k] = slashes;
+    let sets = RuleSets {
+        firsts: r.part.first,
+        trail,
+        ends,
+        slashes,
+    };
+    keep(work, k, &sets);
 }
 
-// What ends where its trailing part x does.
-fn trailed(x: &Parsed) -> Pattern
-    ensures { result ≡ record { at = x.now.at; used = x.now.used } }
-{
-    Pattern {
-        at: x.at,
-        used: x.used,
-    }
-}
-
-// The pattern of rule k at `at`: r, and behind it `$`, `/` and a second alternation, or nothing. Its end mark is `end`.
-fn pattern_at(
+// The trailing part behind r, if there is one: what `$` stands for, or the alternation behind a `/`.
+fn trailing(
     s: &[u8],
-    at: usize,
-    k: usize,
-    end: usize,
-    work: &mut [PositionSet],
-) -> Result<Pattern, Fault>
-    requires { (k < 64) × ((end < 512) × (4096 ≤ length work.old)) }
-    ensures gives { PatternGives (pattern_at s.now at (end + 1)) end k work.old work.new result }
-    ensures moves { Moves result at (length s.now) }
+    r: &Parsed,
+    work: &mut [PositionSet; WORK_SETS],
+) -> Result<Option<Parsed>, Fault>
+    ensures gives { (e : Expression) → TrailingGives (trailing_at s.now (parsed_as r.now e)) e r.now work.old work.new result }
+    ensures moves { IfOk result (λ t. IfSome t (λ x. (r.now.at < x.at) × (x.at ≤ length s.now))) }
 {
-    let r = marked_expression(s, at, end, work)?;
     if stands(s, r.at, b'$') {
-        if r.used + 1 >= POSITIONS {
+        if r.used >= POSITIONS - 1 {
             return Err(refused(Refusal::LimitPassed, r.at));
         }
-        let x = marked_newline(work, r.at + 1, r.used);
-        with_trailing(work, k, end, &r, &x);
-        return Ok(trailed(&x));
+        return Ok(Some(marked_newline(work, r.at + 1, r.used)));
     }
     if stands(s, r.at, b'/') {
         if r.used >= POSITIONS {
             return Err(refused(Refusal::LimitPassed, r.at));
         }
-        let x = marked_expression(s, r.at + 1, r.used, work)?;
-        with_trailing(work, k, end, &r, &x);
-        return Ok(trailed(&x));
+        return Ok(Some(marked_expression(s, r.at + 1, r.used, work)?));
     }
-    without_trailing(work, k, end, &r);
-    Ok(Pattern {
-        at: r.at,
-        used: r.used,
-    })
+    Ok(None)
+}
+
+// The positions that are used where the last part of a pattern is x.
+fn used_with(x: &Parsed) -> Read<usize>
+    ensures { result ≡ record { value = x.now.used; next = x.now.at } }
+{
+    Read {
+        value: x.used,
+        next: x.at,
+    }
+}
+
+// The pattern at `at` of the rule behind those that are done: an end mark, r, and a trailing part or none. The value is
+// how many positions are used then.
+fn pattern_at(
+    s: &[u8],
+    at: usize,
+    done: Progress,
+    work: &mut [PositionSet; WORK_SETS],
+) -> Result<Read<usize>, Fault>
+    requires { (done.rules < 64) × (done.positions < 512) }
+    ensures gives { PatternGives (pattern_at s.now at (done.positions + 1)) done.positions done.rules work.old work.new result }
+    ensures moves { Moves result at (length s.now) }
+{
+    let r = marked_expression(s, at, done.positions, work)?;
+    let Some(x) = trailing(s, &r, work)? else {
+        without_trailing(work, done.rules, done.positions, &r);
+        return Ok(used_with(&r));
+    };
+    with_trailing(work, done.rules, done.positions, &r, &x);
+    Ok(used_with(&x))
 }
 
 // Whether a rule line may begin with this byte.
 fn starts_rule(b: u8) -> bool
     ensures { result ≡ starts_rule b }
 {
-    match b {
-        b'$' | b')' | b'*' | b'+' | b'/' | b'>' | b'?' | b']' | b'{' | b'|' | b'}' => false,
-        _ => b > 32,
-    }
+    b == b'<' || b == b'^' || starts_atom(b)
 }
 
 // Behind the `^` at n, if there is one.
@@ -240,128 +261,87 @@ fn past_anchor(s: &[u8], n: usize) -> usize
 
 // The blanks at n, of which there must be one, and the action behind them.
 fn steps_behind(s: &[u8], n: usize, conditions: &Conditions) -> Result<Steps, Fault>
-    ensures is { does result ≡ steps_behind s.now (known conditions.now) n }
-    ensures padded { IfOk result Padded }
+    ensures { does result ≡ steps_behind s.now (known conditions.now) n }
 {
-    let blanks = span(s, n, s.len(), Kind::Blank);
-    if blanks == 0 {
-        return Err(refused(Refusal::Misfit, n));
+    if !passes(s, n, Kind::Blank) {
+        return Err(misfit(n));
     }
-    action(s, n + blanks, conditions)
+    action(s, n + span(s, n, s.len(), Kind::Blank), conditions)
 }
 
-// What stands behind the conditions of rule k: its pattern and its action.
+// What stands behind the conditions of a rule: its pattern and its action.
 fn rule_body(
     s: &[u8],
-    active: &Picked,
+    active: &Read<ConditionSet>,
     conditions: &Conditions,
-    k: usize,
-    used: usize,
-    work: &mut [PositionSet],
+    done: Progress,
+    work: &mut [PositionSet; WORK_SETS],
 ) -> Result<RuleRead, Fault>
-    requires { (k < 64) × ((used < 512) × (4096 ≤ length work.old)) }
-    ensures { LineGives (behind_active s.now (known conditions.now) used (picked_of active.now)) used k work.old work.new result }
+    requires { (done.rules < 64) × (done.positions < 512) }
+    ensures { LineGives (behind_active s.now (known conditions.now) done.positions (picked_of active.now)) done.positions done.rules work.old work.new result }
 {
     let anchored = stands(s, active.next, b'^');
-    let pattern = pattern_at(s, past_anchor(s, active.next), k, used, work)?;
-    let Steps {
-        list: steps,
-        count: _,
-    } = steps_behind(s, pattern.at, conditions)?;
+    let pattern = pattern_at(s, past_anchor(s, active.next), done, work)?;
+    let action = steps_behind(s, pattern.next, conditions)?;
+    let steps = action.list;
     Ok(RuleRead {
         rule: Rule {
-            conditions: active.conditions,
+            conditions: active.value,
             anchored,
+            trail: 0,
             steps,
         },
-        used: pattern.used,
+        used: pattern.value,
     })
 }
 
-// Rule k, whose line starts at `at`, with `used` positions used before it.
+// The rule line, behind the rules that are done.
 fn rule_line(
-    s: &[u8],
-    at: usize,
+    line: &TextLine,
     conditions: &Conditions,
-    k: usize,
-    used: usize,
-    work: &mut [PositionSet],
+    done: Progress,
+    work: &mut [PositionSet; WORK_SETS],
 ) -> Result<RuleRead, Fault>
-    requires { 4096 ≤ length work.old }
-    ensures { LineGives (rule_line s.now (known conditions.now) k at used) used k work.old work.new result }
+    ensures { LineGives (rule_line line.now.text.now (known conditions.now) done.rules line.now.start done.positions) done.positions done.rules work.old work.new result }
 {
+    let s = line.text;
+    let at = line.start;
     if at >= s.len() || !starts_rule(s[at]) {
-        return Err(refused(Refusal::Misfit, at));
+        return Err(misfit(at));
     }
-    if k >= RULES || used >= POSITIONS {
+    if done.rules >= RULES || done.positions >= POSITIONS {
         return Err(refused(Refusal::LimitPassed, at));
     }
     let active = conditions.active(s, at)?;
-    rule_body(s, &active, conditions, k, used, work)
+    rule_body(s, &active, conditions, done, work)
 }
 
-// Whether the line is `%%`.
-fn divides(file: &[u8], line: &TextLine) -> bool
-    ensures { result ≡ divides_at file.now (line_of line.now) }
-{
-    line.end.checked_sub(2) == Some(line.start)
-        && stands(file, line.start, b'%')
-        && stands(file, line.start + 1, b'%')
-}
-
-// The first line from `at` on that is not empty.
-fn next_line(file: &[u8], at: usize) -> Option<TextLine>
-    requires { length file.now ≤ 8192 }
-    ensures { NextLine file.now at result }
-{
-    let mut start = at;
-    while start < file.len() {
-        let line = line_at(file, start);
-        if start < line.end {
-            return Some(TextLine {
-                start,
-                end: line.end,
-                next: line.next,
-            });
-        }
-        start = line.next;
-    }
-    None
-}
-
-// Declarations up to a line `%%`.
-fn first_section(file: &[u8]) -> Result<FirstSection, Fault>
-    requires { length file.now ≤ 8192 }
-    ensures { FirstGives file.now result }
+// Declarations up to a line `%%`; the lines behind it are left.
+fn first_section(lines: &mut TextLines) -> Result<Conditions, Fault>
+    ensures { FirstGives lines.old lines.new result }
 {
     let mut conditions = Conditions::initial();
-    let mut next = 0;
-    while let Some(line) = next_line(file, next) {
-        if divides(file, &line) {
-            return Ok(FirstSection {
-                conditions,
-                next: line.next,
-            });
+    // No `for`: tried over `lines.by_ref()`, of which a proof knows nothing that is left behind it.
+    while let Some(line) = lines.next() {
+        if line.divides() {
+            return Ok(conditions);
         }
-        conditions = conditions.declaration(&file[0..line.end], line.start)?;
-        next = line.next;
+        conditions = conditions.declaration(line.text, line.start)?;
     }
-    Err(refused(Refusal::Misfit, file.len()))
+    Err(misfit(lines.file.len()))
 }
 
 // Reads one more rule into the loaded memory.
 fn add_rule(
-    s: &[u8],
-    at: usize,
+    line: &TextLine,
     conditions: &Conditions,
     done: Progress,
     loaded: &mut Loaded,
-    work: &mut [PositionSet],
+    work: &mut [PositionSet; WORK_SETS],
 ) -> Result<Progress, Fault>
-    requires { 4096 ≤ length work.old }
-    ensures { Adds s.now (known conditions.now) at done work.old work.new loaded.old loaded.new result }
+    ensures { Adds line.now.text.now (known conditions.now) line.now.start done work.old work.new loaded.old loaded.new result }
 {
-    let read = rule_line(s, at, conditions, done.rules, done.positions, work)?;
+    let read = rule_line(line, conditions, done, work)?;
     loaded.rules[done.rules] = read.rule;
     Ok(Progress {
         rules: done.rules + 1,
@@ -369,52 +349,47 @@ fn add_rule(
     })
 }
 
-// Rules up to a line `%%` or the file's end.
+// Rules up to a line `%%` or the last line.
 fn second_section(
-    file: &[u8],
-    from: usize,
+    lines: TextLines,
     conditions: &Conditions,
     loaded: &mut Loaded,
-    work: &mut [PositionSet],
+    work: &mut [PositionSet; WORK_SETS],
 ) -> Result<Progress, Fault>
-    requires { (length file.now ≤ 8192) × (4096 ≤ length work.old) }
-    ensures { Goes file.now from (known conditions.now) work.new loaded.old loaded.new result }
+    ensures { Goes lines.entry (known conditions.now) work.new loaded.old loaded.new result }
 {
     let mut done = Progress {
         rules: 0,
         positions: 0,
     };
-    let mut next = from;
-    while let Some(line) = next_line(file, next) {
-        if divides(file, &line) {
+    for line in lines {
+        if line.divides() {
             return Ok(done);
         }
-        done = add_rule(
-            &file[0..line.end],
-            line.start,
-            conditions,
-            done,
-            loaded,
-            work,
-        )?;
-        next = line.next;
+        done = add_rule(&line, conditions, done, loaded, work)?;
     }
     Ok(done)
 }
 
 // Both sections, into loaded memory that is zeros.
-fn sections(file: &[u8], loaded: &mut Loaded, work: &mut [PositionSet]) -> Result<Counts, Fault>
-    requires { (length file.now ≤ 8192) × (4096 ≤ length work.old) }
-    ensures { loaded.old ≡ zeros_of → FileReads file.now work.new loaded.new result }
+fn sections(
+    file: &[u8],
+    loaded: &mut Loaded,
+    work: &mut [PositionSet; WORK_SETS],
+) -> Result<Counts, Fault>
+    requires { length file.now ≤ 8192 }
+    ensures whole { length work.new ≡ 4096 }
+    ensures reads { loaded.old ≡ zeros_of → FileReads file.now work.new loaded.new result }
 {
-    let first = first_section(file)?;
-    let done = second_section(file, first.next, &first.conditions, loaded, work)?;
-    let conditions = first.conditions.number();
+    let mut lines = TextLines::of(file);
+    let conditions = first_section(&mut lines)?;
+    let done = second_section(lines, &conditions, loaded, work)?;
+    let count = conditions.number();
     loaded.rule_count = done.rules;
-    loaded.condition_count = conditions;
+    loaded.condition_count = count;
     Ok(Counts {
         rules: done.rules,
-        conditions,
+        conditions: count,
         positions: done.positions,
     })
 }
@@ -428,14 +403,14 @@ pub fn read_rules(
 ) -> Result<Counts, Fault>
     ensures { Answers file.now loaded.old loaded.new work.old work.new result }
 {
-    if work.len() < WORK_SETS {
+    let Some(sets) = work.first_chunk_mut::<WORK_SETS>() else {
         return Err(refused(Refusal::Memory, 0));
-    }
+    };
     if file.len() > FILE_BYTES {
         return Err(refused(Refusal::FileTooLong, 0));
     }
     *loaded = Loaded::zeros();
-    let read = sections(file, loaded, work);
+    let read = sections(file, loaded, sets);
     if read.is_err() {
         *loaded = Loaded::zeros();
     }

@@ -1,13 +1,12 @@
-use Rattle.std.proofs.Common.{Err}
-use Rattle.std.proofs.lemmas.Result.{err_from_is_err_and}
+use Rattle.std.proofs.Common.{Err, ◌∙◌}
 use Rattle.grammar.specs.declared.Step.TheVariants.{Less}
+use Rattle.conditions.proofs.Loop.{thrown}
 use Rattle.actions.proofs.Parts.{less_from}
 use Rattle.actions.proofs.more_or_less.Goals as goal
 
 pub returns-in_err-number-clause-is : goal.returns-in_err-number-clause-is
 returns-in_err-number-clause-is c =
-    let p = err_from_is_err_and c.from_residual-in_err-number.result c.from_residual-in_err-number.ensures.1 in
-    rw (p.1, p.2) (less_from c.args.s.now _ _ _ (Err c.in_err-number.field-0.0) c.in_ok-from.ensures c.if-stands.ensures c.in_ok-inside.ensures (c.in_err-number.ensures.is Less))
+    thrown _ _ c.from_residual-in_err-number.ensures.1 ∙ less_from c.args.s.now _ _ _ (Err c.in_err-number.field-0.0) c.in_ok-from.ensures c.if-stands.ensures c.in_ok-inside.ensures (c.in_err-number.ensures.is Less)
 
 pub returns-clause-is : goal.returns-clause-is
 returns-clause-is c = less_from c.args.s.now _ _ _ _ c.in_ok-from.ensures c.if-stands.ensures c.in_ok-inside.ensures (c.in_ok-number.ensures.is Less)

@@ -1,4 +1,4 @@
-use Rattle.std.proofs.Common.{◌+◌, ◌<◌, length, arith}
+use Rattle.std.proofs.Common.{arith}
 use Rattle.actions.proofs.Parts.{word_moves}
 use Rattle.actions.proofs.numeral.Goals as goal
 

@@ -1,7 +1,7 @@
-use Rattle.std.proofs.Common.{sym, arith}
+use Rattle.std.proofs.Common.{sym}
 use Rattle.conditions.specs.Known.{known}
 use Rattle.conditions.proofs.Conditions.active.Goals as goal
 
-pub returns : goal.returns
+pub returns-clause-is : goal.returns-clause-is
 unfolding known
-returns c = record { is = rw (sym c.if-stands.ensures); moves = (omega arith, λ h. h) }
+returns-clause-is c = rw (sym c.if-stands.ensures)

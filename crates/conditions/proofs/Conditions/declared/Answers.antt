@@ -1,5 +1,6 @@
-use Rattle.std.proofs.lemmas.Result.{err_from_is_err_and}
-use Rattle.conditions.specs.Known.{declared_from}
+use Rattle.std.proofs.Common.{ap, ◌∙◌}
+use Rattle.conditions.specs.Known.{declares, declared_from}
+use Rattle.conditions.proofs.Loop.{thrown}
 use Rattle.conditions.proofs.Lists.{declaring_starts, declaring_turns, declaring_fails, declaring_stops}
 use Rattle.conditions.proofs.Conditions.declared.Goals as goal
 
@@ -8,8 +9,7 @@ loop-read-init c = declaring_starts _ _ _
 
 pub returns-in_err-read-2 : goal.returns-in_err-read-2
 returns-in_err-read-2 c =
-    let p = err_from_is_err_and c.from_residual-in_err-read-2.result c.from_residual-in_err-read-2.ensures.1 in
-    rw (p.1, p.2) (declaring_fails _ _ _ (declared_from c.args.self c.args.n) c.in_ok-read.ensures.is _ _ c.loop-read.invariant c.loop-read-test.true c.in_err-read-2.ensures.is)
+    ap declares (thrown _ _ c.from_residual-in_err-read-2.ensures.1) ∙ declaring_fails _ _ _ (declared_from c.args.self c.args.n) c.in_ok-read.ensures.is _ _ c.loop-read.invariant c.loop-read-test.true c.in_err-read-2.ensures.is
 
 pub loop-read-preserved : goal.loop-read-preserved
 loop-read-preserved c =

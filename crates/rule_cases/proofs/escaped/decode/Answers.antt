@@ -1,4 +1,4 @@
-use Rattle.std.proofs.Common.{sym}
+use Rattle.std.proofs.Common.{rules}
 use Rattle.rule_cases.specs.Runs as runs
 use Rattle.rule_cases.proofs.Steps.{means_first}
 use Rattle.rule_cases.proofs.escaped.decode.Goals as goal
@@ -13,6 +13,6 @@ pub loop-at-preserved : goal.loop-at-preserved
 loop-at-preserved c = (
   c.in_ok-at-2.ensures.within.1,
   runs.units c.in_ok-behind.behind c.in_ok-at-2.at _ _
-      (runs.run c.loop-at.at c.in_ok-behind.behind _ _ c.loop-at.invariant.1 (sym c.if-not-bracket.ensures) c.in_ok-behind.ensures.run)
+      (runs.run c.loop-at.at c.in_ok-behind.behind _ _ c.loop-at.invariant.1 (search rules) c.in_ok-behind.ensures.run)
       c.in_ok-at-2.ensures.added,
 )

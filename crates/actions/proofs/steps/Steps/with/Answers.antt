@@ -1,4 +1,4 @@
-use Rattle.std.proofs.Common.{Some, arith}
+use Rattle.std.proofs.Common.{arith}
 use Rattle.actions.proofs.Added.{given_more, counted_more, padded_more}
 use Rattle.actions.proofs.steps.Steps.with.Goals as goal
 
