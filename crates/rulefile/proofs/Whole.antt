@@ -19,7 +19,7 @@ use Rattle.rulefile.proofs.Rules.{laid_kept, held_few}
 -- what is read lies in longer memory as well
 longer : (o : Out RuleFile) (w rest : Work) (l : Loaded) (c : Counts) → 4096 ≤ length w → FileRead o w l c → FileRead o (w ++ rest) l c
 longer o w rest l c h r =
-    let room : length l.rules ≡ 64 = sym (length-map l.rules (λ (x : Rule). x.trail)) ∙ ap length r.holds.trails ∙ length-replicate 64 0 in
+    let room : length l.rules ≡ 64 = sym (length-map l.rules (λ (x : Rule). x.trail)) ∙ ap length r.holds.trails ∙ length-replicate {A = ℕ} 64 0 in
     let few = held_few l.rules (r.file).rules r.holds.rules in
     record {
       file = r.file;
