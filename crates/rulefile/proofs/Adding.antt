@@ -1,8 +1,7 @@
 -- The second section, as its loop reads rule after rule.
-use Rattle.std.proofs.Common.{◌≡◌, ℕ, zero, suc, ◌+◌, ◌≤◌, Bool, true, false, cond, List, [], ◌∷◌, ◌++◌, map, length, take, set, replicate, Some, Ok, Err, sym, refl, ap, ◌∙◌, subst, arith, length-append, length-set}
+use Rattle.std.proofs.Common.{◌≡◌, ℕ, zero, suc, ◌+◌, Bool, false, cond, List, [], ◌∷◌, ◌++◌, map, length, take, set, replicate, Some, Ok, sym, refl, ap, ◌∙◌, subst, arith, length-append, length-set}
 use Rattle.std.proofs.lemmas.List.{map-set}
 use Rattle.positions.specs.Memory.{Work}
-use Rattle.grammar.specs.declared.Fault.{Fault}
 use Rattle.grammar.specs.Outcome.{Out, then}
 use Rattle.grammar.specs.Lines.{Line, lines}
 use Rattle.grammar.specs.Conditions.{Conditions, only_initial}

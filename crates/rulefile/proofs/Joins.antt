@@ -1,75 +1,27 @@
 -- A mark with an expression behind it, and such parts joined to the pattern of a rule.
-use Rattle.std.proofs.Common.{◌≡◌, ℕ, ◌+◌, ◌/◌, ◌<◌, ◌≤◌, Bool, true, false, cond, ◌&&◌, ◌||◌, eqb, ltb, List, length, Some, None, Ok, Err, Option, Result, sym, refl, ap, ◌∙◌, subst, inl, inr, arith}
-use mathlib.Core.Bool.{or-false, and-true, and-false}
-use Rattle.std.proofs.lemmas.Bool.{cases_lt, lt-ltb, ne_eqb}
+use Rattle.std.proofs.Common.{◌≡◌, ℕ, ◌+◌, ◌/◌, ◌<◌, ◌≤◌, Bool, false, ◌&&◌, ◌||◌, eqb, ltb, List, length, Some, None, Ok, Option, sym, refl, ap, ◌∙◌, subst, inl, inr, arith}
+use mathlib.Core.Bool.{or-false, and-true}
+use Rattle.std.proofs.lemmas.Bool.{cases_lt, lt-ltb}
 use Rattle.bits.specs.Set.{has}
 use Rattle.bits.specs.declared.Bits.{Bits}
 use Rattle.patterns.specs.Expression.{Expression}
 use Rattle.patterns.specs.Positions.{size, nullable, takes, first, last, follows}
 use Rattle.patterns.proofs.Ranges.{takes_out, last_out, follows_out}
-use Rattle.positions.specs.declared.Fragment.{Fragment}
-use Rattle.positions.specs.Memory.{Work, member, Leaf, Linked}
+use Rattle.positions.specs.Memory.{Work, member, Linked}
 use Rattle.positions.specs.Laid.{Kept}
 use Rattle.positions.proofs.Sets.{word_room}
 use Rattle.positions.proofs.Links.{linked_order, linked_low, kept_linked}
-use Rattle.positions.proofs.Lays.{laid_leaf, kept_leaf, kept_trans, kept_less, laid_kept}
+use Rattle.positions.proofs.Lays.{kept_trans, kept_less, laid_kept}
 use Rattle.expressions.specs.declared.Parsed.{Parsed}
-use Rattle.expressions.specs.Frames.{Outside}
-use Rattle.expressions.specs.Lays.{Gives, parsed_as}
-use Rattle.expressions.proofs.Frames.{kept_outside}
-use Rattle.grammar.specs.declared.Fault.{Fault}
+use Rattle.expressions.specs.Lays.{parsed_as}
 use Rattle.grammar.specs.Outcome.{Out, then}
 use Rattle.grammar.specs.Expressions as grammar
 use Rattle.grammar.specs.Expressions.{alternation_at}
-use Rattle.grammar.specs.File as file
-use Rattle.grammar.specs.File.{newline, trailing_at, pattern_at}
+use Rattle.grammar.specs.File.{trailing_at, pattern_at}
 use Rattle.rulefile.specs.declared.RuleSets.{RuleSets}
-use Rattle.rulefile.specs.Machine.{RulesKept, pattern_size, pattern_takes, pattern_after, slash}
-use Rattle.rulefile.specs.Marks.{Unjoined, MarkedRead, MarkedGives, Keeps, Joined, TrailingRead, TrailingGives, PatternRead}
+use Rattle.rulefile.specs.Machine.{pattern_size, pattern_takes, pattern_after, slash}
+use Rattle.rulefile.specs.Marks.{Unjoined, MarkedRead, Keeps, Joined, TrailingGives, PatternRead}
 use Rattle.rulefile.proofs.Sets.{rules_kept, rules_kept_less}
-
--- a leaf writes the sets of its position alone
-pub outside_leaf : {w w' : Work} {p : ℕ} {bs : List ℕ} {f : Fragment} → p < 512 → Leaf w w' p bs f → Outside p (p + 1) w w'
-outside_leaf {w = w} {w' = w'} {p = p} h l = record {
-  bytes = λ k q t o. apart k q (elim o [ inl less ↦ λ e. omega arith | inr past ↦ λ e. omega arith ]) (λ e. omega arith);
-  order = λ k q t o. apart (512 + k) q (λ e. omega arith) (elim o [ inl less ↦ λ e. omega arith | inr past ↦ λ e. omega arith ]);
-  others = λ k q t. apart k q (λ e. omega arith) (λ e. omega arith);
-}
-  where
-    apart : (k q : ℕ) → (k ≡ p → ⊥) → (k ≡ 512 + p → ⊥) → member w' k q ≡ member w k q
-    apart k q n m =
-        let low = ne_eqb k p n in
-        let high = ne_eqb k (512 + p) m in
-        rw (l.memory k q, low, high, and-false) refl
-
--- an expression read behind a mark
-pub marked_gives : (o : Out grammar.Parsed) (a : ℕ) (w u w' : Work) (r : Result Parsed Fault)
-    → a < 512 → ((b : ℕ) → member u a b ≡ false) → ((q : ℕ) → member u (512 + a) q ≡ false) → Outside a (a + 1) w u
-    → Gives o (a + 1) u w' r → MarkedGives o a w w' r
-marked_gives o a w u w' (Ok p) h bytes order out l = record {
-  tree = l.tree;
-  is = l.is;
-  unjoined = record {
-    mark_bytes = λ b. l.kept.bytes a b (omega arith) ∙ bytes b;
-    mark_order = λ q. l.kept.order a q (omega arith) ∙ order q;
-    laid = l.laid;
-    counts = l.counts;
-  };
-  kept = kept_trans (kept_outside a (a + 1) w u (omega arith) out) (kept_less (omega arith) l.kept);
-}
-marked_gives o a w u w' (Err e) h bytes order out l = l
-
--- a newline behind a mark
-pub newline_unjoined : {w w' : Work} {a : ℕ} {bs : List ℕ} {f : Fragment} (at : ℕ)
-    → a + 1 < 512 → 1024 ≤ length w → ((b : ℕ) → member w a b ≡ false) → ((q : ℕ) → member w (512 + a) q ≡ false)
-    → ((q : ℕ) → has bs q ≡ eqb q 10) → Leaf w w' (a + 1) bs f
-    → Unjoined w' a newline (record { part = f; at = at; used = a + 2 })
-newline_unjoined {a = a} at h big bytes order is l = record {
-  mark_bytes = λ b. (kept_leaf l).bytes a b (omega arith) ∙ bytes b;
-  mark_order = λ q. (kept_leaf l).order a q (omega arith) ∙ order q;
-  laid = laid_leaf l h big (λ b. eqb b 10) (λ b c. is b);
-  counts = omega arith;
-}
 
 module _ {w : Work} {a : ℕ} {e : Expression} {r : Parsed} (u : Unjoined w a e r) where
   -- the mark takes no byte, and nothing comes after it: what e says of it, too

@@ -66,9 +66,9 @@ two_stand : (s : List ℕ) (n e : ℕ) → e ≤ length s → divides_in (take e
 two_stand s n e h =
     ap (λ (k : ℕ). eqb k (n + 2) && (stands (take e s) n 37 && stands (take e s) (n + 1) 37)) (length-take-le e s h)
     ∙ under (eqb e (n + 2)) _ _ (λ q.
-        let k : e ≡ n + 2 = eqb-true e (n + 2) q in
-        ap (λ (b : Bool). b && stands (take e s) (n + 1) 37) (stands_in s e n 37 (omega arith) h)
-        ∙ ap (λ (b : Bool). stands s n 37 && b) (stands_in s e (n + 1) 37 (omega arith) h))
+    let k : e ≡ n + 2 = eqb-true e (n + 2) q in
+    ap (λ (b : Bool). b && stands (take e s) (n + 1) 37) (stands_in s e n 37 (omega arith) h)
+    ∙ ap (λ (b : Bool). stands s n 37 && b) (stands_in s e (n + 1) 37 (omega arith) h))
 
 pub divides_is : (file : List ℕ) (l : Line) (x : TextLine) → IsLine file l x → divides_in x.text.now x.start ≡ divides file l
 divides_is file l x i = ap (λ (t : List ℕ). divides_in t x.start) i.text ∙ ap (divides_in (take l.end file)) i.start ∙ two_stand file l.start l.end i.within

@@ -1,6 +1,5 @@
 -- A rule line, and the rules one behind another.
-use Rattle.std.proofs.Common.{◌≡◌, ℕ, suc, ◌+◌, ◌-◌, ◌<◌, ◌≤◌, Bool, true, false, cond, List, [], ◌∷◌, ◌++◌, length, set, replicate, Ok, Err, Result, sym, refl, ap, ◌∙◌, subst, arith, take-append-drop}
-use Rattle.std.proofs.lemmas.List.{length-take}
+use Rattle.std.proofs.Common.{◌≡◌, ℕ, suc, ◌+◌, ◌<◌, ◌≤◌, Bool, true, false, cond, List, [], ◌∷◌, ◌++◌, length, set, Ok, Err, Result, sym, refl, ap, ◌∙◌, subst, arith}
 use Rattle.bits.specs.Set.{has}
 use Rattle.bits.specs.declared.Bits.{Bits}
 use Rattle.positions.specs.Memory.{Work}
@@ -52,9 +51,6 @@ module _ (s : List ℕ) (c : Conditions) (u k : ℕ) (w w' : Work) (a : Read (Bi
       ∙ ap (λ (o : Out file.Pattern). then o (behind_pattern s c (picked a) (stands s a.next 94))) q.is
       ∙ behind_is s c (picked a) (stands s a.next 94) q.pattern
       ∙ ap (λ (n : ℕ). then (steps_behind s c n) (rule_of (picked a) (stands s a.next 94) q.pattern)) (sym q.at)
-
-  pub body_fails : (f : Fault) → Err f ≡ steps_behind s c p.next → behind_active s c u (picked a) ≡ Err f
-  body_fails f e = body_so_far ∙ ap (λ (o : Out (List Step)). then o (rule_of (picked a) (stands s a.next 94) q.pattern)) (sym e)
 
   pub body_reads : (t : Steps) (b : Bool) → k < 64 → b ≡ stands s a.next 94 → Ok (taken t) ≡ steps_behind s c p.next
       → LineRead (behind_active s c u (picked a)) u k w w' (record { rule = record { conditions = a.value; anchored = b; trail = 0; steps = t.list }; used = p.value })

@@ -12,7 +12,7 @@ use Rattle.loaded.specs.declared.Loaded.{Loaded}
 use Rattle.loaded.specs.declared.Rule.{Rule}
 use Rattle.loaded.specs.Zeros.{zeros}
 use Rattle.rulefile.specs.declared.Counts.{Counts}
-use Rattle.rulefile.specs.Sections.{FileRead, FileGives, FileReads, Answers}
+use Rattle.rulefile.specs.Sections.{FileRead, FileReads, Answers}
 use Rattle.rulefile.proofs.Sets.{rules_kept_longer}
 use Rattle.rulefile.proofs.Rules.{laid_kept, held_few}
 

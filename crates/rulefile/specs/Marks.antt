@@ -14,6 +14,11 @@ use Rattle.grammar.specs.File as file
 use Rattle.rulefile.specs.declared.RuleSets.{RuleSets}
 use Rattle.rulefile.specs.Machine.{PatternLaid, RulesKept, pattern_size}
 
+-- r is as P says of its value, or the refusal that o is
+abbrev pub gives : {X Y : Type 0} → Out X → (Y → Type 0) → Result Y Fault → Type 0
+gives o P (Ok y) = P y
+gives o P (Err e) = o ≡ Err e
+
 -- a mark at a, and behind it the expression e, which p says how it begins and ends: nothing joins them yet
 pub record Unjoined (w : Work) (a : ℕ) (e : Expression) (p : Parsed) : Type 0 where
   pub mark_bytes : (b : ℕ) → member w a b ≡ false
@@ -29,8 +34,7 @@ pub record MarkedRead (o : Out expressions.Parsed) (a : ℕ) (w w' : Work) (p : 
   pub kept : Kept a w w'
 
 abbrev pub MarkedGives : Out expressions.Parsed → ℕ → Work → Work → Result Parsed Fault → Type 0
-MarkedGives o a w w' (Ok p) = MarkedRead o a w w' p
-MarkedGives o a w w' (Err e) = o ≡ Err e
+MarkedGives o a w w' = gives o (MarkedRead o a w w')
 
 -- the sets of rule i are written, and nothing of the positions nor of the rules before it
 pub record Keeps (i : ℕ) (w w' : Work) (s : RuleSets) : Type 0 where
@@ -67,5 +71,4 @@ pub record PatternRead (o : Out file.Pattern) (a i : ℕ) (w w' : Work) (p : Rea
   pub joined : Joined a i w w' pattern.expression pattern.trailing
 
 abbrev pub PatternGives : Out file.Pattern → ℕ → ℕ → Work → Work → Result (Read ℕ) Fault → Type 0
-PatternGives o a i w w' (Ok p) = PatternRead o a i w w' p
-PatternGives o a i w w' (Err e) = o ≡ Err e
+PatternGives o a i w w' = gives o (PatternRead o a i w w')

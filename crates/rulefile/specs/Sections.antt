@@ -19,6 +19,7 @@ use Rattle.rulefile.specs.declared.lines.TextLines.{TextLines}
 use Rattle.rulefile.specs.declared.Progress.{Progress}
 use Rattle.rulefile.specs.declared.Counts.{Counts}
 use Rattle.rulefile.specs.Lines.{left}
+use Rattle.rulefile.specs.Marks.{gives}
 use Rattle.rulefile.specs.Machine.{PatternLaid, RulesLaid, RulesKept}
 use Rattle.rulefile.specs.Loaded.{RuleHolds, RulesHold, trails_of, Holds}
 
@@ -38,8 +39,7 @@ pub record LineRead (o : Out file.RuleRead) (a i : ℕ) (w w' : Work) (r : RuleR
   pub kept : RulesKept a i w w'
 
 abbrev pub LineGives : Out file.RuleRead → ℕ → ℕ → Work → Work → Result RuleRead Fault → Type 0
-LineGives o a i w w' (Ok r) = LineRead o a i w w' r
-LineGives o a i w w' (Err e) = o ≡ Err e
+LineGives o a i w w' = gives o (LineRead o a i w w')
 
 -- the first section ends before the lines that are left in t
 pub record FirstRead (s t : TextLines) (c : code.Conditions) : Type 0 where
@@ -47,8 +47,7 @@ pub record FirstRead (s t : TextLines) (c : code.Conditions) : Type 0 where
   pub is : file.first_section s.file.now only_initial (left s) ≡ Ok (record { conditions = known c; behind = left t })
 
 abbrev pub FirstGives : TextLines → TextLines → Result code.Conditions Fault → Type 0
-FirstGives s t (Ok c) = FirstRead s t c
-FirstGives s t (Err e) = file.first_section s.file.now only_initial (left s) ≡ Err e
+FirstGives s t = gives (file.first_section s.file.now only_initial (left s)) (FirstRead s t)
 
 -- the rules so far: qs, laid down in the work memory, and in the loaded memory if that was zeros at first
 pub record SoFar (qs : List RuleText) (w : Work) (l₀ l : Loaded) (p : Progress) : Type 0 where
@@ -72,8 +71,7 @@ pub record Added (s : List ℕ) (c : Conditions) (at : ℕ) (done : Progress) (w
   pub next : p ≡ record { rules = done.rules + 1; positions = read.used }
 
 abbrev pub Adds : List ℕ → Conditions → ℕ → Progress → Work → Work → Loaded → Loaded → Result Progress Fault → Type 0
-Adds s c at done w w' l l' (Ok p) = Added s c at done w w' l l' p
-Adds s c at done w w' l l' (Err e) = file.rule_line s c done.rules at done.positions ≡ Err e
+Adds s c at done w w' l l' = gives (file.rule_line s c done.rules at done.positions) (Added s c at done w w' l l')
 
 -- the second section, of the lines that are left in s
 pub record Gone (s : TextLines) (c : Conditions) (w : Work) (l l' : Loaded) (p : Progress) : Type 0 where
@@ -82,8 +80,7 @@ pub record Gone (s : TextLines) (c : Conditions) (w : Work) (l l' : Loaded) (p :
   pub so_far : SoFar rules w l l' p
 
 abbrev pub Goes : TextLines → Conditions → Work → Loaded → Loaded → Result Progress Fault → Type 0
-Goes s c w l l' (Ok p) = Gone s c w l l' p
-Goes s c w l l' (Err e) = file.second_section s.file.now c [] 0 (left s) ≡ Err e
+Goes s c w l l' = gives (file.second_section s.file.now c [] 0 (left s)) (Gone s c w l l')
 
 -- a whole file is read
 pub record FileRead (o : Out RuleFile) (w : Work) (l : Loaded) (c : Counts) : Type 0 where
@@ -100,8 +97,7 @@ FileGives o w l (Ok c) = FileRead o w l c
 FileGives o w l (Err e) = (o ≡ Err e) × (l ≡ zeros)
 
 abbrev pub FileReads : List ℕ → Work → Loaded → Result Counts Fault → Type 0
-FileReads text w l (Ok c) = FileRead (file.sections text) w l c
-FileReads text w l (Err e) = file.sections text ≡ Err e
+FileReads text w l = gives (file.sections text) (FileRead (file.sections text) w l)
 
 -- Memory and length are judged first, and write nothing; any other refusal leaves the loaded memory zeros.
 pub record Answers (text : List ℕ) (l l' : Loaded) (w w' : Work) (r : Result Counts Fault) : Type 0 where

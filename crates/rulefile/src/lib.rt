@@ -304,16 +304,15 @@ fn rule_line(
 ) -> Result<RuleRead, Fault>
     ensures { LineGives (rule_line line.now.text.now (known conditions.now) done.rules line.now.start done.positions) done.positions done.rules work.old work.new result }
 {
-    let s = line.text;
-    let at = line.start;
-    if at >= s.len() || !starts_rule(s[at]) {
-        return Err(misfit(at));
+    let first = line.text.get(line.start);
+    if !first.is_some_and(|b| starts_rule(*b)) {
+        return Err(misfit(line.start));
     }
     if done.rules >= RULES || done.positions >= POSITIONS {
-        return Err(refused(Refusal::LimitPassed, at));
+        return Err(refused(Refusal::LimitPassed, line.start));
     }
-    let active = conditions.active(s, at)?;
-    rule_body(s, &active, conditions, done, work)
+    let active = conditions.active(line.text, line.start)?;
+    rule_body(line.text, &active, conditions, done, work)
 }
 
 // Declarations up to a line `%%`; the lines behind it are left.

@@ -1,4 +1,4 @@
-use Rattle.std.proofs.Common.{length, ◌-◌, ◌≡◌, ◌≤◌}
+use Rattle.std.proofs.Common.{length, ◌-◌, ◌≡◌}
 use Rattle.rulefile.specs.Lines.{left}
 use Rattle.rulefile.proofs.lines.TextLinesIterator.next.Given as goal
 
