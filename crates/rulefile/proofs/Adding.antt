@@ -1,6 +1,7 @@
 -- The second section, as its loop reads rule after rule.
-use Rattle.std.proofs.Common.{◌≡◌, ℕ, zero, suc, ◌+◌, Bool, false, cond, List, [], ◌∷◌, ◌++◌, map, length, take, set, replicate, Some, Ok, sym, refl, ap, ◌∙◌, subst, arith, length-append, length-set}
+use Rattle.std.proofs.Common.{◌≡◌, ℕ, zero, suc, ◌+◌, false, List, [], ◌∷◌, ◌++◌, map, length, set, replicate, Some, Ok, sym, refl, ap, ◌∙◌, subst, arith, length-append}
 use Rattle.std.proofs.lemmas.List.{map-set}
+use Rattle.std.proofs.lemmas.Grind.{common_steps}
 use Rattle.positions.specs.Memory.{Work}
 use Rattle.grammar.specs.Outcome.{Out, then}
 use Rattle.grammar.specs.Lines.{Line, lines}
@@ -15,12 +16,11 @@ use Rattle.loaded.specs.Zeros.{zeros, no_rule}
 use Rattle.rulefile.specs.declared.Progress.{Progress}
 use Rattle.rulefile.specs.declared.lines.TextLine.{TextLine}
 use Rattle.rulefile.specs.declared.lines.TextLines.{TextLines}
-use Rattle.rulefile.specs.Machine.{RulesKept, PatternLaid}
 use Rattle.rulefile.specs.Loaded.{RulesHold, trails_of}
 use Rattle.rulefile.specs.Lines.{left, IsLine, Gives, divides_in}
 use Rattle.rulefile.specs.Sections.{FirstRead, SoFar, Added, Gone, FileRead}
 use Rattle.rulefile.proofs.Left.{divides_is}
-use Rattle.rulefile.proofs.Rules.{laid_more, size_more, holds_more}
+use Rattle.rulefile.proofs.Rules.{laid_more, size_more, holds_more, places}
 
 -- rules that are read of the lines of s, with those of u left
 pub record Adding (s u : TextLines) (c : Conditions) (w : Work) (l₀ l : Loaded) (p : Progress) : Type 0 where
@@ -29,22 +29,22 @@ pub record Adding (s u : TextLines) (c : Conditions) (w : Work) (l₀ l : Loaded
   pub so_far : SoFar rules w l₀ l p
   pub rest : second_section s.file.now c [] 0 (left s) ≡ second_section s.file.now c rules p.positions (left u)
 
-zero_rules : (l : Loaded) → l ≡ zeros → (length l.rules ≡ 64) × (l.rules ≡ replicate (length l.rules) no_rule)
+zero_rules : (l : Loaded) → l ≡ zeros → l.rules ≡ replicate 64 no_rule
 unfolding zeros
-zero_rules l e =
-    let r : l.rules ≡ replicate 64 no_rule = ap (λ (x : Loaded). x.rules) e in
-    let n : length l.rules ≡ 64 = ap length r in
-    (n, r ∙ ap (λ (m : ℕ). replicate m no_rule) (sym n))
+zero_rules l e = ap (λ (x : Loaded). x.rules) e
 
 zero_trails : (l : Loaded) → l ≡ zeros → trails_of l ≡ replicate 64 0
-unfolding zeros no_rule
-zero_trails l e = ap trails_of e
+unfolding no_rule
+zero_trails l e = ap (map (λ (r : Rule). r.trail)) (zero_rules l e)
+
+zero_held : (l : Loaded) → l ≡ zeros → RulesHold l.rules []
+zero_held l e = let r = zero_rules l e in r ∙ ap (λ (m : ℕ). replicate m no_rule) (sym (ap length r))
 
 pub adding_start : (s u : TextLines) (c : Conditions) (w : Work) (l : Loaded) → u ≡ s → Adding s u c w l l (record { rules = 0; positions = 0 })
 adding_start s u c w l e = record {
   same = ap (λ (t : TextLines). t.file.now) e;
   rules = [];
-  so_far = record { count = refl; few = omega arith; used = refl; laid = tt; room = λ e. (zero_rules l e).0; holds = λ e. (zero_rules l e).1; starts = refl; trails = zero_trails l; row_count = refl };
+  so_far = record { count = refl; few = omega arith; used = refl; laid = tt; holds = zero_held l; starts = refl; trails = zero_trails l; row_count = refl };
   rest = ap (λ (t : TextLines). second_section s.file.now c [] 0 (left t)) (sym e);
 }
 
@@ -59,26 +59,16 @@ more : (qs : List RuleText) (w w' : Work) (l₀ l l' : Loaded) (p p' : Progress)
 more qs w w' l₀ l l' p p' s c at f a =
     let q = a.line.rule in
     let i = f.count in
-    let u = f.used in
     let len : length (qs ++ (q ∷ [])) ≡ length qs + 1 = length-append qs (q ∷ []) in
-    let kept : RulesKept (all_positions qs) (length qs) w w' = subst (λ (m : ℕ). RulesKept (all_positions qs) m w w') i (subst (λ (m : ℕ). RulesKept m p.rules w w') u a.line.kept) in
-    let laid : PatternLaid w' q.expression q.trailing (all_positions qs) (length qs) =
-    subst (λ (m : ℕ). PatternLaid w' q.expression q.trailing (all_positions qs) m) i (subst (λ (m : ℕ). PatternLaid w' q.expression q.trailing m p.rules) u a.line.laid) in
-    let z : 0 + all_positions qs ≡ all_positions qs = omega arith in
-    let y : 0 + length qs ≡ length qs = omega arith in
-    let rules-is : l'.rules ≡ set l.rules (length qs) a.read.rule = a.rules ∙ ap (λ (m : ℕ). set l.rules m a.read.rule) i in
     record {
       count = ap (λ (x : Progress). x.rules) a.next ∙ omega (arith, i, len);
       few = omega (arith, a.line.few, i, len);
-      used = ap (λ (x : Progress). x.positions) a.next ∙ a.line.counts ∙ omega (arith, u, size_more qs q);
-      laid = laid_more w w' 0 0 qs q f.laid
-          (subst (λ (m : ℕ). RulesKept m (0 + length qs) w w') (sym z) (subst (λ (m : ℕ). RulesKept (all_positions qs) m w w') (sym y) kept))
-          (subst (λ (m : ℕ). PatternLaid w' q.expression q.trailing m (0 + length qs)) (sym z) (subst (λ (m : ℕ). PatternLaid w' q.expression q.trailing (all_positions qs) m) (sym y) laid));
-      room = λ e. ap length rules-is ∙ length-set l.rules (length qs) a.read.rule ∙ f.room e;
-      holds = λ e. subst (λ (rs : List Rule). RulesHold rs (qs ++ (q ∷ []))) (sym rules-is)
-          (holds_more l.rules qs a.read.rule q (f.holds e) (omega (arith, f.room e, a.line.few, i)) a.line.holds);
+      used = ap (λ (x : Progress). x.positions) a.next ∙ a.line.counts ∙ omega (arith, f.used, size_more qs q);
+      laid = laid_more w w' 0 0 p.positions p.rules qs q (omega (arith, f.used)) (omega (arith, i)) f.laid a.line.kept a.line.laid;
+      holds = λ e. subst (λ (rs : List Rule). RulesHold rs (qs ++ (q ∷ []))) (sym a.rules)
+          (holds_more l.rules qs p.rules a.read.rule q i (f.holds e) (omega (arith, places l (f.trails e), a.line.few)) a.line.holds);
       starts = a.starts ∙ f.starts;
-      trails = λ e. ap (map (λ (r : Rule). r.trail)) rules-is ∙ map-set (λ (r : Rule). r.trail) l.rules (length qs) a.read.rule ∙ rw (f.trails e, a.line.trail) (set_zero 64 (length qs));
+      trails = λ e. ap (map (λ (r : Rule). r.trail)) a.rules ∙ map-set (λ (r : Rule). r.trail) l.rules p.rules a.read.rule ∙ rw (f.trails e, a.line.trail) (set_zero 64 p.rules);
       row_count = a.row_count ∙ f.row_count;
     }
 
@@ -96,12 +86,12 @@ module _ (s u v : TextLines) (c : Conditions) (w : Work) (l₀ l : Loaded) (p : 
 
   judged : false ≡ divides_in x.text.now x.start → second_section s.file.now c [] 0 (left s) ≡ then (rule_line x.text.now c p.rules x.start p.positions) behind
   judged off =
-      a.rest
-      ∙ ap (second_section s.file.now c a.rules p.positions) g.first.1
-      ∙ ap (λ (b : Bool). cond b (rule_file c a.rules p.positions) (then (rule_line (take line.end s.file.now) c (length a.rules) line.start p.positions) behind)) (sym (off ∙ divides_is s.file.now line x is_line))
-      ∙ ap (λ (t : List ℕ). then (rule_line t c (length a.rules) line.start p.positions) behind) (sym is_line.text)
-      ∙ ap (λ (n : ℕ). then (rule_line x.text.now c (length a.rules) n p.positions) behind) (sym is_line.start)
-      ∙ ap (λ (n : ℕ). then (rule_line x.text.now c n x.start p.positions) behind) (sym a.so_far.count)
+      let r = a.rest in
+      let n = a.so_far.count in
+      let d = divides_is s.file.now line x is_line in
+      let t = is_line.text in
+      let f = g.first.1 in
+      grind (arith, common_steps)
 
   pub adding_more : (w' : Work) (l' : Loaded) (p' : Progress) → false ≡ divides_in x.text.now x.start → Added x.text.now c x.start p w w' l l' p' → Adding s v c w' l₀ l' p'
   adding_more w' l' p' off d = record {

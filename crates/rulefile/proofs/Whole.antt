@@ -1,7 +1,6 @@
 -- A whole file, read into the first sets of work memory that may be longer.
-use Rattle.std.proofs.Common.{◌≡◌, ℕ, ◌<◌, ◌≤◌, Bool, true, false, cond, List, ◌++◌, length, take, drop, Ok, Err, Result, sym, refl, ap, ◌∙◌, arith, take-append-drop}
+use Rattle.std.proofs.Common.{◌≡◌, ℕ, ◌<◌, ◌≤◌, Bool, true, false, cond, List, ◌++◌, length, take, drop, Ok, Err, Result, refl, ap, ◌∙◌, arith, take-append-drop}
 use Rattle.std.proofs.lemmas.Bool.{le-leb}
-use Rattle.std.proofs.lemmas.List.{length-map, length-replicate}
 use Rattle.std.specs.Result.{is_err}
 use Rattle.positions.specs.Memory.{Work}
 use Rattle.grammar.specs.declared.Fault.{Fault}
@@ -9,18 +8,17 @@ use Rattle.grammar.specs.declared.Refusal.TheVariants.{FileTooLong}
 use Rattle.grammar.specs.Outcome.{Out, fault, refused}
 use Rattle.grammar.specs.File.{RuleFile, sections, rule_file_of}
 use Rattle.loaded.specs.declared.Loaded.{Loaded}
-use Rattle.loaded.specs.declared.Rule.{Rule}
 use Rattle.loaded.specs.Zeros.{zeros}
 use Rattle.rulefile.specs.declared.Counts.{Counts}
 use Rattle.rulefile.specs.Sections.{FileRead, FileReads, Answers}
 use Rattle.rulefile.proofs.Sets.{rules_kept_longer}
-use Rattle.rulefile.proofs.Rules.{laid_kept, held_few}
+use Rattle.rulefile.proofs.Rules.{laid_kept, held_few, places}
 
 -- what is read lies in longer memory as well
 longer : (o : Out RuleFile) (w rest : Work) (l : Loaded) (c : Counts) → 4096 ≤ length w → FileRead o w l c → FileRead o (w ++ rest) l c
 longer o w rest l c h r =
-    let room : length l.rules ≡ 64 = sym (length-map l.rules (λ (x : Rule). x.trail)) ∙ ap length r.holds.trails ∙ length-replicate {A = ℕ} 64 0 in
     let few = held_few l.rules (r.file).rules r.holds.rules in
+    let room = places l r.holds.trails in
     record {
       file = r.file;
       is = r.is;

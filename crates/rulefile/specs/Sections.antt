@@ -55,7 +55,6 @@ pub record SoFar (qs : List RuleText) (w : Work) (l₀ l : Loaded) (p : Progress
   pub few : length qs ≤ 64
   pub used : p.positions ≡ file.all_positions qs
   pub laid : RulesLaid w 0 0 qs
-  pub room : l₀ ≡ zeros → length l.rules ≡ 64
   pub holds : l₀ ≡ zeros → RulesHold l.rules qs
   pub starts : l.starts ≡ l₀.starts
   pub trails : l₀ ≡ zeros → trails_of l ≡ replicate 64 0
