@@ -1,5 +1,5 @@
 -- What the code's conditions stand for in the grammar.
-use Rattle.std.specs.Prelude.{ℕ, Bool, take, Result}
+use Rattle.std.specs.Prelude.{ℕ, Bool, map, take, Result}
 use Rattle.bits.specs.Set.{has}
 use Rattle.bits.specs.declared.Bits.{Bits}
 use Rattle.grammar.specs.declared.Fault.{Fault}
@@ -7,10 +7,11 @@ use Rattle.grammar.specs.declared.Read.{Read}
 use Rattle.grammar.specs.Outcome.{Out, seen, outcome}
 use Rattle.grammar.specs.Conditions as grammar
 use Rattle.conditions.specs.declared.Conditions.{Conditions}
+use Rattle.conditions.specs.Spelt.{text}
 
 -- the conditions by their names and by which are inclusive
 unfoldable pub known : Conditions → grammar.Conditions
-known c = record { names = take c.count c.names; inclusive = has c.inclusive.words }
+known c = record { names = map text (take c.count c.names); inclusive = has c.inclusive.words }
 
 abbrev pub members : Bits 1 → ℕ → Bool
 members s = has s.words

@@ -78,9 +78,7 @@ impl Conditions {
         ensures moves { IfOk result (λ k. (n < k.next) × (k.next ≤ length s.now)) }
     {
         let spelt = spelt_at(s, n)?;
-        // The part of a slice, since the checker takes no part of an array of names.
-        let names = &self.names[..];
-        match finder::find(&names[0..self.count], &spelt.value) {
+        match finder::find(&self.names[0..self.count], &spelt.value) {
             Some(k) => Ok(Read {
                 value: k as u8,
                 next: spelt.next,
