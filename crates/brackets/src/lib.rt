@@ -89,7 +89,8 @@ fn range_end(s: &[u8], n: usize) -> Result<Read<u8>, Fault>
     element(s, n)
 }
 
-// The bytes that pass a test.
+// The bytes that pass a test. It stays within this crate: it asks that the test can be called, and no public function
+// asks anything.
 fn bytes_where<F: Fn(u8) -> bool>(test: F) -> ByteSet
     requires { F.IsAlwaysCallable test }
     ensures tested { (b : ℕ) → b < 256 → F.post test b (has result.words b) }
@@ -194,6 +195,7 @@ fn members(s: &[u8], n: usize) -> Result<Read<ByteSet>, Fault>
     ensures closes { Closes result n (length s.now) }
 {
     let mut all = member(s, true, n)?;
+    // A `while`: each turn reads where the one before ended, and may refuse.
     while !stands(s, all.next, b']') {
         let more = member(s, false, all.next)?;
         all.value.add_all(&more.value);

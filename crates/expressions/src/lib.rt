@@ -251,6 +251,7 @@ fn quote(s: &[u8], at: usize, used: usize, work: &mut Work) -> Result<Parsed, Fa
         return Err(misfit(at));
     }
     let mut all = quoted(s, at, used, work)?;
+    // A `while`, as in the loops below: each turn reads where the one before ended, and may refuse.
     while !stands(s, all.at, b'"') {
         all = quoted_more(s, all, used, work)?;
     }

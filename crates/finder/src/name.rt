@@ -4,8 +4,8 @@ ghost use Rattle.finder.specs.Names.{padded};
 
 use crate::Same;
 
-// The first `len` of the bytes are the name. The others are 0, so that equal names have equal bytes. No impl Model: a
-// lent value that holds names was then beyond the checker in a crate that doesn't mention them.
+// The first `len` of the bytes are the name. The others are 0, so that equal names have equal bytes. No String: the
+// library has no heap. No impl Model: tried, and a crate above that lends what holds names was then not proved.
 #[derive(Clone, Copy, PartialEq, Eq)]
 pub struct Name {
     bytes: [u8; 24],

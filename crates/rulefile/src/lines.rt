@@ -56,6 +56,7 @@ impl<'a> Iterator for TextLines<'a> {
     ghost remaining = { item_count left };
 
     fn next(&mut self) -> Option<TextLine<'a>> {
+        // A `while`: how long a line is shows when it is read.
         while self.at < self.file.len() {
             let start = self.at;
             let line = line_at(self.file, start);
