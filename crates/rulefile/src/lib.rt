@@ -271,8 +271,8 @@ fn rule_body(
     ensures { LineGives (behind_active s.now (known conditions.now) place.end (picked_of active.now)) place.end place.rule work.old work.new result }
 {
     let anchored = stands(s, active.next, b'^');
-    let pattern = pattern_at(s, past_anchor(s, active.next), place, work)?;
-    let action = steps_behind(s, pattern.next, conditions)?;
+    let Read { value: used, next } = pattern_at(s, past_anchor(s, active.next), place, work)?;
+    let action = steps_behind(s, next, conditions)?;
     let steps = action.list;
     Ok(RuleRead {
         rule: Rule {
@@ -281,7 +281,7 @@ fn rule_body(
             trail: 0,
             steps,
         },
-        used: pattern.value,
+        used,
     })
 }
 
