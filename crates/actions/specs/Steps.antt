@@ -1,11 +1,11 @@
 -- What the code's steps stand for in the grammar.
-use Rattle.std.specs.Prelude.{◌≡◌, ℕ, Bool, ◌&&◌, List, length, Result, nat_lt}
+use Rattle.std.specs.Prelude.{ℕ, List, Result}
 use Rattle.grammar.specs.declared.Fault.{Fault}
 use Rattle.grammar.specs.declared.Step.{Step}
 use Rattle.grammar.specs.declared.Read.{Read}
 use Rattle.grammar.specs.Outcome.{Out, outcome, seen}
-use Rattle.grammar.specs.Actions.{Action, writes}
-use Rattle.actions.specs.Given.{given, padded}
+use Rattle.grammar.specs.Actions.{Action}
+use Rattle.actions.specs.Given.{given}
 use Rattle.actions.specs.declared.reading.Reading.{Reading}
 use Rattle.actions.specs.declared.steps.Steps.{Steps}
 
@@ -16,16 +16,8 @@ taken a = given a.list a.count
 abbrev pub does : Result Steps Fault → Out (List Step)
 does = outcome taken
 
--- behind the steps there is nothing; each value of the type says so
-abbrev pub Padded : Steps → Type 0
-Padded a = (length (taken a) ≡ a.count) × (a.list ≡ padded (taken a))
-
 abbrev pub view : Reading → Action
 view q = record { steps = taken q.steps; stage = q.stage; next = q.next }
-
--- one more step that writes may come
-abbrev pub has_room : Action → Bool
-has_room a = writes a.stage && nat_lt (length a.steps) 8
 
 abbrev pub reads : Result Reading Fault → Out Action
 reads = outcome view

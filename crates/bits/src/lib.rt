@@ -162,6 +162,7 @@ impl<const W: usize> Bits<W> {
     pub fn next(&self, from: usize) -> Option<usize>
         ensures { First W self.now.words from result }
     {
+        // By number, since a member is 64 times its word's number and a bit more.
         let end = W.min(1 << 58);
         let mut low = from % 64;
         for i in from / 64..end {

@@ -65,8 +65,8 @@ impl Conditions {
     }
 
     // How many there are.
-    pub fn number(self) -> usize
-        ensures { result ≡ length (known self).names }
+    pub fn number(&self) -> usize
+        ensures { result ≡ length (known self.now).names }
     {
         self.count
     }

@@ -1,6 +1,6 @@
 -- The copies of an interval, laid down from the last to the first.
 use Rattle.std.proofs.Common.{◌≡◌, ℕ, zero, suc, ◌+◌, ◌-◌, ◌*◌, ◌<◌, ◌≤◌, Bool, true, false, cond, ◌&&◌, ◌||◌, ltb, leb, ◌⊎◌, List, length, sym, refl, ◌∙◌, subst, inl, inr, mul-le-mul_right, suc-mul, zero-mul, arith}
-use Rattle.std.proofs.lemmas.Bool.{cases_Bool, ltb-false, le-leb}
+use Rattle.std.proofs.lemmas.Bool.{cases_Bool, false_from_ne_true, ltb-false, le-leb}
 use Rattle.bits.specs.Set.{has}
 use Rattle.patterns.specs.Expression.{Expression, Takes, Then, Either}
 use Rattle.patterns.specs.Expression as expression
@@ -16,7 +16,7 @@ use Rattle.positions.proofs.Lays.{laid_then, laid_repeats, laid_copied}
 use Rattle.grammar.specs.declared.Interval.{Interval}
 use Rattle.grammar.specs.declared.Interval.TheVariants.{Between, AtLeast}
 use Rattle.grammar.specs.Expressions.{copy_of, side_by_side, extra}
-use Rattle.expressions.specs.Frames.{Outside, Plain, Marked, Forms, Placed, Copies}
+use Rattle.expressions.specs.Frames.{Outside, Marked, Forms, Placed, Copies}
 use Rattle.expressions.proofs.Frames.{outside_refl, outside_trans, outside_wider, laid_outside, outside_linked}
 
 size_cond : (b : Bool) (e f : Expression) → size f ≡ size e → size (cond b e f) ≡ size e
@@ -113,18 +113,10 @@ placed_copied e base zero w w' x f l room h s =
         at (inr y) = rw y (sym (g (ltb-false q 512 y)))
 
     past_first : (q : ℕ) → 512 ≤ q → has x.first.words q ≡ false
-    past_first q g = l.begins q ∙ none (first e base q) (λ t. omega (arith, (first_in e base q t).1, l.within))
-      where
-        none : (v : Bool) → (v ≡ true → ⊥) → v ≡ false
-        none true k = absurd (k refl)
-        none false k = refl
+    past_first q g = l.begins q ∙ false_from_ne_true (first e base q) (λ t. omega (arith, (first_in e base q t).1, l.within))
 
     past_last : (q : ℕ) → 512 ≤ q → has x.last.words q ≡ false
-    past_last q g = l.ends q ∙ none (last e base q) (λ t. omega (arith, (last_in e base q t).1, l.within))
-      where
-        none : (v : Bool) → (v ≡ true → ⊥) → v ≡ false
-        none true k = absurd (k refl)
-        none false k = refl
+    past_last q g = l.ends q ∙ false_from_ne_true (last e base q) (λ t. omega (arith, (last_in e base q t).1, l.within))
 
     back : ((k q : ℕ) → member w' k q ≡ member w k q) → Laid w' e base f
     back same = record {
@@ -179,14 +171,11 @@ module _ (i : Interval) (e : Expression) (base last : ℕ) (x : Fragment) (w₀ 
         outside = outside_trans _ _ w₀ w w₃ t.outside (outside_wider _ _ _ _ w w₃ (omega arith) bound o);
       }
     where
-      grows : (a b n : ℕ) → a ≤ b → a * n ≤ b * n
-      grows a b n h = mul-le-mul_right n h
-
       bounded : (k last n base : ℕ) → suc k ≤ last → base + k * n + n ≤ base + suc last * n
-      bounded k last n base h = omega (arith, suc-mul k n, grows (suc k) (suc last) n (omega arith))
+      bounded k last n base h = omega (arith, suc-mul k n, mul-le-mul_right {m = suc k} {n = suc last} n (omega arith))
 
       apart : (k n : ℕ) → 0 < k → base + n ≤ base + k * n
-      apart k n h = omega (arith, suc-mul 0 n, zero-mul n, grows 1 k n h)
+      apart k n h = omega (arith, suc-mul 0 n, zero-mul n, mul-le-mul_right {m = 1} {n = k} n h)
 
 -- the same turn, as the code makes it
 pub again : (i : Interval) (e : Expression) (base last n : ℕ) (x : Fragment) (w₀ w w₁ w₂ w₃ : Work) (k m : ℕ) (all copy next more : Fragment)

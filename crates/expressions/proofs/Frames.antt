@@ -1,6 +1,6 @@
 -- Memory that is unchanged but for the positions from a up to b.
 use Rattle.std.proofs.Common.{◌≡◌, ℕ, ◌+◌, ◌-◌, ◌<◌, ◌≤◌, Bool, true, false, ◌&&◌, ◌||◌, ltb, leb, ◌⊎◌, List, sym, refl, ap, ◌∙◌, inl, inr, arith}
-use Rattle.std.proofs.lemmas.Bool.{cases_Bool, and_right, lt-leb, le-ltb}
+use Rattle.std.proofs.lemmas.Bool.{false_from_ne_true, and_right, lt-leb, le-ltb}
 use Rattle.bits.specs.Set.{has}
 use Rattle.patterns.specs.Expression.{Expression}
 use Rattle.patterns.specs.Positions.{size}
@@ -58,13 +58,9 @@ laid_outside e a c d w w' f l o side = record {
 -- what `Linked` and its kin add is in the sets of the last positions of e, which lie from a on
 module _ (e : Expression) (a : ℕ) (w : Work) (x : Fragment) (l : Laid w e a x) where
   no_last : (p : ℕ) → Apart a (a + size e) p → has x.last.words p ≡ false
-  no_last p o = go (cases_Bool (has x.last.words p))
-    where
-      go : (has x.last.words p ≡ true) ⊎ (has x.last.words p ≡ false) → has x.last.words p ≡ false
-      go (inl t) =
-          let i = last_in e a p (sym (l.ends p) ∙ t) in
-          elim o [ inl lt ↦ absurd (omega (arith, i.0)) | inr ge ↦ absurd (omega (arith, i.1)) ]
-      go (inr f) = f
+  no_last p o = false_from_ne_true (has x.last.words p) (λ t.
+      let i = last_in e a p (sym (l.ends p) ∙ t) in
+      elim o [ inl lt ↦ omega (arith, i.0) | inr ge ↦ omega (arith, i.1) ])
 
   none_added : (m g h s : Bool) → g ≡ false → (m || (h && (g && s))) ≡ m
   none_added true g h s e = refl

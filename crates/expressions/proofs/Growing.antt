@@ -16,7 +16,7 @@ use Rattle.grammar.specs.Outcome.{Out, refused, then, many}
 use Rattle.grammar.specs.Expressions.{Parsed, parsed, joined_by, repeated_by, repeated_more, bounds_at, extra, repeated, repeated_over}
 use Rattle.tokens.proofs.Follow.{Left, starts, stops, turns_on, fails}
 use Rattle.expressions.specs.declared.Parsed as code
-use Rattle.expressions.specs.Lays.{parsed_as, Lays, Gives, Holds, Steps, Moves}
+use Rattle.expressions.specs.Lays.{parsed_as, Lays, Gives, Holds, Steps}
 use Rattle.expressions.specs.Reads.{JoinsOn, MarksOn, Counted, interval_over}
 use Rattle.expressions.specs.Frames.{Placed, Copies}
 use Rattle.expressions.proofs.Frames.{kept_outside}
@@ -72,46 +72,47 @@ module _ {s : List ℕ} {go : Parsed → Bool} {step : Parsed → Out Parsed} {o
   pub grown_counted : {w₀ w : Work} {r : Code} → Grown s go step o base w₀ w r → Counted base r
   grown_counted g = (omega (arith, g.holds.counts, size_pos g.tree), omega (arith, g.holds.counts, g.holds.laid.within))
 
--- a further part, behind what r has been read as
-module _ (p : Out Parsed) (base : ℕ) (w w₁ w₂ : Work) (all more r : Code) where
-  -- both parts, as they stand in w₁
-  both : (t : Expression) → Holds w base all t → (l : Lays p all.used w w₁ more) → Laid w₁ t base all.part × Laid w₁ l.tree (base + size t) more.part × Kept base w w₁
-  both t h l =
-      let k : Kept (base + size t) w w₁ = subst (λ (a : ℕ). Kept a w w₁) h.counts l.kept in
-      (laid_kept h.laid k, subst (λ (a : ℕ). Laid w₁ l.tree a more.part) h.counts l.laid, kept_less (omega arith) k)
+-- both parts, as they stand in w₁
+both : {p : Out Parsed} {base : ℕ} {w w₁ : Work} {all more : Code} (t : Expression) → Holds w base all t → (l : Lays p all.used w w₁ more)
+    → Laid w₁ t base all.part × Laid w₁ l.tree (base + size t) more.part × Kept base w w₁
+both {base = base} {w = w} {w₁ = w₁} {more = more} t h l =
+    let k : Kept (base + size t) w w₁ = subst (λ (a : ℕ). Kept a w w₁) h.counts l.kept in
+    (laid_kept h.laid k, subst (λ (a : ℕ). Laid w₁ l.tree a more.part) h.counts l.laid, kept_less (omega arith) k)
 
-  parts : (join : Expression → Expression → Expression) (t : Expression) (l : Lays p all.used w w₁ more) → r.at ≡ more.at → r.used ≡ more.used → then p (joined_by join (parsed_as all t)) ≡ Ok (parsed_as r (join t l.tree))
-  parts join t l a u =
-      ap (λ (x : Out Parsed). then x (joined_by join (parsed_as all t))) l.is
-      ∙ ap (λ (n : ℕ). Ok (record { tree = join t l.tree; at = n; used = more.used })) (sym a)
-      ∙ ap (λ (n : ℕ). Ok (record { tree = join t l.tree; at = r.at; used = n })) (sym u)
+parts : {p : Out Parsed} {w w₁ : Work} {more : Code} (all r : Code) (join : Expression → Expression → Expression) (t : Expression) (l : Lays p all.used w w₁ more) → r.at ≡ more.at → r.used ≡ more.used
+    → then p (joined_by join (parsed_as all t)) ≡ Ok (parsed_as r (join t l.tree))
+parts {more = more} all r join t l a u =
+    ap (λ (x : Out Parsed). then x (joined_by join (parsed_as all t))) l.is
+    ∙ ap (λ (n : ℕ). Ok (record { tree = join t l.tree; at = n; used = more.used })) (sym a)
+    ∙ ap (λ (n : ℕ). Ok (record { tree = join t l.tree; at = r.at; used = n })) (sym u)
 
-  pub joined_steps : Lays p all.used w w₁ more → JoinsOn w₁ w₂ all more r → 1024 ≤ length w₁
-      → (t : Expression) → Holds w base all t → Lays (then p (joined_by Then (parsed_as all t))) base w w₂ r
-  joined_steps l j room t h =
-      let b = both t h l in record {
-        tree = Then t l.tree;
-        is = parts Then t l j.at j.used;
-        counts = omega (arith, j.used, l.counts, h.counts);
-        laid = laid_then b.0 b.1 room j.part;
-        kept = kept_trans b.2 (kept_then b.0 j.part);
-      }
+-- a further part, behind what `all` has been read as
+pub joined_steps : {p : Out Parsed} {base : ℕ} {w w₁ w₂ : Work} {all more r : Code} → Lays p all.used w w₁ more → JoinsOn w₁ w₂ all more r → 1024 ≤ length w₁
+    → (t : Expression) → Holds w base all t → Lays (then p (joined_by Then (parsed_as all t))) base w w₂ r
+joined_steps {all = all} {r = r} l j room t h =
+    let b = both t h l in record {
+      tree = Then t l.tree;
+      is = parts all r Then t l j.at j.used;
+      counts = omega (arith, j.used, l.counts, h.counts);
+      laid = laid_then b.0 b.1 room j.part;
+      kept = kept_trans b.2 (kept_then b.0 j.part);
+    }
 
-  pub choice_steps : Lays p all.used w w₁ more → Choice all.part more.part r.part → r.at ≡ more.at → r.used ≡ more.used
-      → (t : Expression) → Holds w base all t → Lays (then p (joined_by Either (parsed_as all t))) base w w₁ r
-  choice_steps l c a u t h =
-      let b = both t h l in record {
-        tree = Either t l.tree;
-        is = parts Either t l a u;
-        counts = omega (arith, u, l.counts, h.counts);
-        laid = laid_either b.0 b.1 c;
-        kept = b.2;
-      }
+pub choice_steps : {p : Out Parsed} {base : ℕ} {w w₁ : Work} {all more r : Code} → Lays p all.used w w₁ more → Choice all.part more.part r.part → r.at ≡ more.at → r.used ≡ more.used
+    → (t : Expression) → Holds w base all t → Lays (then p (joined_by Either (parsed_as all t))) base w w₁ r
+choice_steps {all = all} {r = r} l c a u t h =
+    let b = both t h l in record {
+      tree = Either t l.tree;
+      is = parts all r Either t l a u;
+      counts = omega (arith, u, l.counts, h.counts);
+      laid = laid_either b.0 b.1 c;
+      kept = b.2;
+    }
 
 -- one more repeat mark
-pub marked_steps : (s : List ℕ) (m : Repeat) (base : ℕ) (w w' : Work) (all r : Code) → ((e : Expression) → repeated_by (get_or s all.at 0) e ≡ made m e)
+pub marked_steps : (s : List ℕ) {m : Repeat} {base : ℕ} {w w' : Work} {all r : Code} → ((e : Expression) → repeated_by (get_or s all.at 0) e ≡ made m e)
     → 1024 ≤ length w → MarksOn m w w' all r → Steps (repeated_more s) base w w' all (Ok r)
-marked_steps s m base w w' all r same room j t h = record {
+marked_steps s {m = m} {all = all} {r = r} same room j t h = record {
   tree = made m t;
   is =
       ap (λ (e : Expression). Ok (record { tree = e; at = all.at + 1; used = all.used })) (same t)
@@ -127,9 +128,9 @@ pub lays_by : {o o' : Out Parsed} {base : ℕ} {w w' : Work} {r : Code} → o �
 lays_by e l = record { tree = l.tree; is = e ∙ l.is; counts = l.counts; laid = l.laid; kept = l.kept }
 
 -- one byte that closes what has been read
-pub past_lays : (o : Out Parsed) (close : Parsed → Out Parsed) (base : ℕ) (w w' : Work) (all r : Code) → Lays o base w w' all
+pub past_lays : {o : Out Parsed} (close : Parsed → Out Parsed) {base : ℕ} {w w' : Work} {all r : Code} → Lays o base w w' all
     → ((t : Expression) → close (parsed_as all t) ≡ parsed t (all.at + 1) all.used) → r ≡ record { part = all.part; at = all.at + 1; used = all.used } → Lays (then o close) base w w' r
-past_lays o close base w w' all r l c e =
+past_lays {o = o} close {base = base} {w = w} {w' = w'} {all = all} l c e =
     subst (λ (x : Code). Lays (then o close) base w w' x) (sym e) record {
       tree = l.tree;
       is = ap (λ (x : Out Parsed). then x close) l.is ∙ c l.tree;
@@ -185,8 +186,3 @@ gives_fault {o = o} base w w' p e = subst (λ (r : Result Code Fault). Gives o b
 -- a fault is a fault of all that would go on behind it
 pub then_fault : {X Y : Type 0} {o : Out Y} {first : Out X} {f : Fault} (more : X → Out Y) → o ≡ then first more → first ≡ Err f → o ≡ Err f
 then_fault more e h = e ∙ ap (λ (x : Out _). then x more) h
-
--- what was read from the next byte on was read from this one on
-pub moves_on : (r : Result Code Fault) (at n : ℕ) → Moves r (at + 1) n → Moves r at n
-moves_on (Ok r) at n h = (omega arith, h.1)
-moves_on (Err f) at n h = tt

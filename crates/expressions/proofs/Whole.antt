@@ -1,5 +1,5 @@
 -- The first 1,024 sets of lent memory are read and written as an array; what is behind them stays.
-use Rattle.std.proofs.Common.{◌≡◌, ℕ, ◌+◌, ◌-◌, ◌<◌, ◌≤◌, Bool, List, [], ◌++◌, take, drop, length, Ok, Err, Result, sym, ap, ◌∙◌, arith}
+use Rattle.std.proofs.Common.{◌≡◌, ℕ, ◌+◌, ◌-◌, ◌<◌, ◌≤◌, [], ◌++◌, take, drop, length, get_or, Ok, Err, Result, ap, ◌∙◌, arith}
 use Rattle.std.proofs.lemmas.List.{get_or_append_left, get_or-append_right, get_or-drop, get_or-take}
 use Rattle.bits.specs.Set.{has}
 use Rattle.bits.specs.declared.Bits.{Bits}
@@ -26,7 +26,7 @@ module _ (w v : Work) (room : length v ≡ 1024) where
   behind : (k q : ℕ) → 1024 ≤ k → member after k q ≡ member w k q
   behind k q h =
       let e : 1024 + (k - 1024) ≡ k = omega arith in
-      ap (λ (b : Bits 8). has b.words q) (get_or-append_right v (drop 1024 w) 1024 k none room h ∙ get_or-drop 1024 w (k - 1024) none ∙ ap (λ (n : ℕ). lib.ListN.get_or w n none) e)
+      ap (λ (b : Bits 8). has b.words q) (get_or-append_right v (drop 1024 w) 1024 k none room h ∙ get_or-drop 1024 w (k - 1024) none ∙ ap (λ (n : ℕ). get_or w n none) e)
 
   pub gives_whole : (o : Out Parsed) (base : ℕ) (r : Result code.Parsed Fault) → Gives o base (take 1024 w) v r → Gives o base w after r
   gives_whole o base (Err f) e = e

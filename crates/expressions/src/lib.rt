@@ -257,6 +257,8 @@ fn quote(s: &[u8], at: usize, used: usize, work: &mut Work) -> Result<Parsed, Fa
     Ok(all.past())
 }
 
+// The text, the depth and the work memory go through the cycle as parameters: a parser's contracts would each have to say
+// that its text is unchanged, which `&[u8]` says by its type.
 #[cycle(alternation_alternative_atom_branch_extended_group_piece)]
 fn group(s: &[u8], at: usize, used: usize, depth: usize, work: &mut Work) -> Result<Parsed, Fault>
     requires { at < length s.now }
@@ -370,6 +372,7 @@ fn alternative(
     })
 }
 
+// Its last clause is for `expression`, which borrows the array out of a slice.
 #[cycle(alternation_alternative_atom_branch_extended_group_piece)]
 fn alternation(
     s: &[u8],

@@ -1,35 +1,22 @@
 // Names of at most 24 bytes.
-ghost use Rattle.std.specs.Prelude.{◌≡◌, [], take};
+ghost use Rattle.std.specs.Prelude.{◌≡◌, ◌≤◌, [], take};
+ghost use Rattle.finder.specs.Names.{padded};
 
 use crate::Same;
-use std::marker::Model;
 
-// The first `len` of the bytes are the name. The others are 0, so that equal names have equal bytes.
+// The first `len` of the bytes are the name. The others are 0, so that equal names have equal bytes. No impl Model: a
+// lent value that holds names was then beyond the checker in a crate that doesn't mention them.
 #[derive(Clone, Copy, PartialEq, Eq)]
 pub struct Name {
     bytes: [u8; 24],
     len: usize,
-}
-
-impl Model for Name {
-    ghost use Rattle.std.specs.Prelude.{ℕ, List, take};
-
-    ghost Value = { List ℕ };
-
-    ghost use Rattle.finder.specs.Names.{Filled, filled, given_back};
-
-    ghost view = { λ n. take n.len n.bytes };
-
-    ghost invariant = { Filled };
-
-    ghost inverse = { filled };
-
-    ghost inverse_ok = { given_back };
+    ghost ok: { len ≤ 24 },
+    ghost filled: { bytes ≡ padded (take len bytes) },
 }
 
 impl Name {
     pub fn blank() -> Name
-        ensures { result ≡ [] }
+        ensures { take result.len result.bytes ≡ [] }
     {
         Name {
             bytes: [0; 24],
@@ -39,7 +26,7 @@ impl Name {
 
     // The first 24 bytes of a text, or all if they are fewer.
     pub fn of(text: &[u8]) -> Name
-        ensures { result ≡ take 24 text.now }
+        ensures { take result.len result.bytes ≡ take 24 text.now }
     {
         let mut bytes = [0; 24];
         let len = text.len().min(24);
@@ -49,7 +36,7 @@ impl Name {
 }
 
 impl Same for Name {
-    ghost meaning = { λ n. n };
+    ghost meaning = { λ n. take n.len n.bytes };
 
     fn same(&self, other: &Name) -> bool {
         self == other

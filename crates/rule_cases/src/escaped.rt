@@ -66,7 +66,10 @@ fn unit(text: &[u8], at: usize) -> Option<Read<u8>>
     if value == b'~' {
         return escape(text, at + 1);
     }
-    Some(Read { value, next: at + 1 })
+    Some(Read {
+        value,
+        next: at + 1,
+    })
 }
 
 // Whether `~` and this bracket stand at `at`.
@@ -82,6 +85,7 @@ fn units(text: &[u8], from: usize, out: &mut Vec<u8>) -> anyhow::Result<usize>
     ensures within { IfOk result (λ m. (from ≤ m) × (m ≤ length text.now)) }
     ensures added { IfOk result (λ m. Added text.now from m out.old.items out.new.items) }
 {
+    // What is read says where the next begins, so that no iterator over the bytes is plainer.
     let mut at = from;
     while at < text.len() && !bracket(text, at, b'[') && !bracket(text, at, b']') {
         let meant = unit(text, at).context("an escape is cut off or not known")?;
@@ -131,6 +135,7 @@ pub fn decode(heap: Global, text: &[u8]) -> anyhow::Result<Vec<u8>>
     ensures { IfOk result (λ v. Means text.now (length text.now) v.items) }
 {
     let mut out = Vec::new(heap);
+    // As in `units`, a place follows from what is read before it.
     let mut at = units(text, 0, &mut out)?;
     while at < text.len() {
         ensure!(

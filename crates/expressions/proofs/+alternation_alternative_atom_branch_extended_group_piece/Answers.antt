@@ -1,13 +1,13 @@
-use Rattle.std.proofs.Common.{◌+◌, length, Err, sym, refl, ap, ◌∙◌, arith}
+use Rattle.std.proofs.Common.{length, Err, sym, refl, ap, ◌∙◌, arith}
 use Rattle.std.proofs.lemmas.Result.{err_from_is_err_and}
-use Rattle.grammar.specs.Outcome.{Out, then, many}
-use Rattle.grammar.specs.Expressions.{Parsed, inside, marked, repeated_more, piece_by, branch_goes_on, branch_more, branch_by, bar_ahead, alternation_more, closed_group}
+use Rattle.grammar.specs.Outcome.{many}
+use Rattle.grammar.specs.Expressions.{inside, marked, repeated_more, branch_goes_on, branch_more, bar_ahead, alternation_more, closed_group}
 use Rattle.grammar.specs.declared.Fault.{Fault}
 use Rattle.grammar.specs.Expressions.{repeat_mark}
 use Rattle.expressions.specs.Lays.{parsed_as}
 use Rattle.tokens.proofs.Items.{stands_below, passes_below}
 use Rattle.expressions.proofs.Atoms.{group_is, atom_quote, atom_group, atom_one, piece_is, branch_is, alternation_is, closed_open, closed_shut, extended_joins}
-use Rattle.expressions.proofs.Growing.{Code, grown_start, grown_turn, grown_stop, grown_fails, grown_counted, past_lays, lays_by, joined_steps, choice_steps, marked_steps, gives_by, gives_fault, then_fault, moves_on}
+use Rattle.expressions.proofs.Growing.{Code, grown_start, grown_turn, grown_stop, grown_fails, grown_counted, past_lays, lays_by, joined_steps, choice_steps, marked_steps, gives_by, gives_fault, then_fault}
 use Rattle.expressions.proofs.+alternation_alternative_atom_branch_extended_group_piece.Goals as goal
 
 pub alternation-returns-in_err-all-clause-gives : goal.alternation-returns-in_err-all-clause-gives
@@ -38,21 +38,19 @@ alternation-returns-clause-gives t c = grown_stop c.loop-work.invariant.3 (λ t.
 
 pub alternative-returns-clause-gives : goal.alternative-returns-clause-gives
 alternative-returns-clause-gives t c =
-    let s = c.args.s.now in
-    let all = c.args.all in
-    choice_steps (branch_by (inside c.args.depth s) s (all.at + 1) all.used) c.args.base c.args.work.now _ c.args.work.now all _ _ c.in_ok-more.ensures.gives c.choice.ensures refl refl
+    choice_steps c.in_ok-more.ensures.gives c.choice.ensures refl refl
 
 pub atom-returns-then-stands-clause-gives : goal.atom-returns-then-stands-clause-gives
 atom-returns-then-stands-clause-gives t c =
-    gives_by c.args.used c.args.work.now c.quote.new.work c.quote.result (atom_quote (inside c.args.depth c.args.s.now) c.args.s.now c.args.at c.args.used c.if-stands.ensures) c.quote.ensures.gives
+    gives_by _ _ _ c.quote.result (atom_quote (inside c.args.depth c.args.s.now) c.args.s.now c.args.at c.args.used c.if-stands.ensures) c.quote.ensures.gives
 
 pub atom-returns-then-stands-2-clause-gives : goal.atom-returns-then-stands-2-clause-gives
 atom-returns-then-stands-2-clause-gives t c =
-    gives_by c.args.used c.args.work.now c.group.new.work c.group.result (atom_group (inside c.args.depth c.args.s.now) c.args.s.now c.args.at c.args.used c.if-stands.ensures c.if-stands-2.ensures) c.group.ensures.gives
+    gives_by _ _ _ c.group.result (atom_group (inside c.args.depth c.args.s.now) c.args.s.now c.args.at c.args.used c.if-stands.ensures c.if-stands-2.ensures) c.group.ensures.gives
 
 pub atom-returns-clause-gives : goal.atom-returns-clause-gives
 atom-returns-clause-gives t c =
-    gives_by c.args.used c.args.work.now c.one.new.work c.one.result (atom_one (inside c.args.depth c.args.s.now) c.args.s.now c.args.at c.args.used c.if-stands.ensures c.if-stands-2.ensures) c.one.ensures.gives
+    gives_by _ _ _ c.one.result (atom_one (inside c.args.depth c.args.s.now) c.args.s.now c.args.at c.args.used c.if-stands.ensures c.if-stands-2.ensures) c.one.ensures.gives
 
 pub branch-returns-in_err-all-clause-gives : goal.branch-returns-in_err-all-clause-gives
 branch-returns-in_err-all-clause-gives t c =
@@ -88,7 +86,7 @@ extended-returns-clause-gives t c =
     let s = c.args.s.now in
     let i = inside c.args.depth s in
     let all = c.args.all in
-    λ e h. lays_by (extended_joins i s (parsed_as all e) c.if-stands.ensures) (joined_steps (piece_by i s all.at all.used) c.args.base c.args.work.now _ _ all _ _ c.in_ok-more.ensures.gives c.then.ensures (omega arith) e h)
+    λ e h. lays_by (extended_joins i s (parsed_as all e) c.if-stands.ensures) (joined_steps c.in_ok-more.ensures.gives c.then.ensures (omega arith) e h)
 
 pub group-returns-in_err-inner-clause-gives : goal.group-returns-in_err-inner-clause-gives
 group-returns-in_err-inner-clause-gives t c =
@@ -108,7 +106,7 @@ group-returns t c =
     let on = c.if-not-stands.ensures in
     let at = ap (λ (x : Code). x.at) c.past.ensures in
     record {
-      gives = lays_by (group_is c.args.depth s c.args.at c.args.used c.if-depth-eq0.false) (past_lays _ (closed_group s) c.args.used c.args.work.now _ inner _ r.gives (λ e. closed_shut s (parsed_as inner e) on) c.past.ensures);
+      gives = lays_by (group_is c.args.depth s c.args.at c.args.used c.if-depth-eq0.false) (past_lays (closed_group s) r.gives (λ e. closed_shut s (parsed_as inner e) on) c.past.ensures);
       moves = (omega (arith, at), omega (arith, at, stands_below s inner.at 41 on));
     }
 
@@ -131,7 +129,7 @@ piece-loop-mark-preserved t c =
     let m = c.in-Some.ensures in
     let below = passes_below repeat_mark s all.at (sym m.0) in
     let j = c.marked-all.ensures in
-    (omega (arith, j.at), omega (arith, j.at, below), omega arith, grown_turn v.3 (λ e. sym m.0) (marked_steps s c.in-Some.mark c.args.used c.loop-mark.work _ all _ m.1 (omega arith) j) (omega (arith, j.at)) v.1)
+    (omega (arith, j.at), omega (arith, j.at, below), omega arith, grown_turn v.3 (λ e. sym m.0) (marked_steps s m.1 (omega arith) j) (omega (arith, j.at)) v.1)
 
 pub piece-returns-clause-gives : goal.piece-returns-clause-gives
 piece-returns-clause-gives t c = grown_stop c.loop-mark.invariant.3 (λ e. sym c.in_default.ensures) c.in_ok-all.ensures.gives.kept

@@ -1,4 +1,4 @@
-use Rattle.std.proofs.Common.{◌≡◌, ◌++◌, drop, take, length, subst, arith}
+use Rattle.std.proofs.Common.{subst, arith}
 use Rattle.positions.specs.Memory.{Work}
 use Rattle.grammar.specs.Expressions.{alternation_at}
 use Rattle.expressions.specs.Lays.{Gives}

@@ -1,7 +1,7 @@
-use Rattle.std.proofs.Common.{not, refl, ap, ◌∙◌, arith}
+use Rattle.std.proofs.Common.{not, refl, ap, arith}
 use Rattle.std.proofs.lemmas.Result.{err_from_is_err_and}
 use Rattle.tokens.proofs.Items.{stands_below}
-use Rattle.grammar.specs.Expressions.{in_quotes, quoted_more, past_quote}
+use Rattle.grammar.specs.Expressions.{past_quote}
 use Rattle.expressions.proofs.Atoms.{quote_is}
 use Rattle.expressions.proofs.Growing.{grown_turn, grown_stop, grown_fails, past_lays, lays_by, gives_fault, then_fault, Code}
 use Rattle.expressions.proofs.quote.Goals as goal
@@ -25,6 +25,6 @@ returns c =
     let at = ap (λ (x : Code). x.at) c.past.ensures in
     let l = grown_stop c.loop-work.invariant.2 (λ t. ap not on) c.in_ok-all.ensures.gives.kept in
     record {
-      gives = lays_by (quote_is s c.args.at c.args.used c.if-stands.ensures) (past_lays _ past_quote c.args.used c.args.work.now _ c.loop-work.all _ l (λ t. refl) c.past.ensures);
+      gives = lays_by (quote_is s c.args.at c.args.used c.if-stands.ensures) (past_lays past_quote l (λ t. refl) c.past.ensures);
       moves = (omega (arith, at), omega (arith, at, stands_below s c.loop-work.all.at 34 on));
     }

@@ -16,5 +16,5 @@ loop-n-preserved c =
     let from = c.args.from in
     let inside : c.loop-n.n < length s - from = omega (arith, c.in_ok-b-items.ensures.lookup.0.3) in
     let same : get_or c.in_ok-b-items.b-items.now c.loop-n.n 0 ≡ get_or s (from + c.loop-n.n) 0 =
-        rw (c.in_ok-b-items.ensures.lookup.0.2, get_or-take (length s - from) (drop from s) c.loop-n.n 0 inside) (get_or-drop from s c.loop-n.n 0) in
+    rw (c.in_ok-b-items.ensures.lookup.0.2, get_or-take (length s - from) (drop from s) c.loop-n.n 0 inside) (get_or-drop from s c.loop-n.n 0) in
     digit_more s from c.loop-n.n c.loop-n.times _ c.loop-n.invariant same (omega arith) (omega arith)
