@@ -40,7 +40,7 @@ pub const RULES: usize = 64;
 
 // The sets of the work memory, 32,768 words of 64 bits in all: the bytes of each position, the positions that may follow
 // it, then for each rule the positions that it begins with, those that its trailing part begins with, its end mark, and
-// its slash mark.
+// its slash mark. Positions are numbers, and the memory is lent and fixed, as the library has no heap.
 pub const WORK_SETS: usize = 4096;
 
 pub const FIRSTS: usize = 1024;
@@ -360,7 +360,7 @@ fn second_section(
     Ok(done)
 }
 
-// Both sections, into loaded memory that is zeros.
+// Both sections, into loaded memory that is zeros. A caller that lends a part of a slice knows its length only from here.
 fn sections(
     file: &[u8],
     loaded: &mut Loaded,
