@@ -13,7 +13,7 @@ use Rattle.conditions.specs.declared.Conditions as code
 use Rattle.loaded.specs.declared.Loaded.{Loaded}
 use Rattle.loaded.specs.declared.Rule.{Rule}
 use Rattle.loaded.specs.Zeros.{zeros, no_rule}
-use Rattle.rulefile.specs.declared.Progress.{Progress}
+use Rattle.rulefile.specs.declared.progress.Progress.{Progress}
 use Rattle.rulefile.specs.declared.lines.TextLine.{TextLine}
 use Rattle.rulefile.specs.declared.lines.TextLines.{TextLines}
 use Rattle.rulefile.specs.Loaded.{RulesHold, trails_of}

@@ -2,6 +2,7 @@
 use Rattle.std.proofs.Common.{◌≡◌, ℕ, ◌+◌, ◌/◌, ◌<◌, ◌≤◌, Bool, false, ◌&&◌, ◌||◌, eqb, ltb, List, length, Some, None, Ok, Option, sym, refl, ap, ◌∙◌, subst, inl, inr, arith}
 use mathlib.Core.Bool.{or-false, and-true}
 use Rattle.std.proofs.lemmas.Bool.{cases_lt, lt-ltb}
+use Rattle.std.proofs.lemmas.Grind.{common_steps}
 use Rattle.bits.specs.Set.{has}
 use Rattle.bits.specs.declared.Bits.{Bits}
 use Rattle.patterns.specs.Expression.{Expression}
@@ -115,10 +116,6 @@ module _ {w : Work} {a : ℕ} {e g : Expression} {r x : Parsed} (m : Unjoined w 
         | inr past ↦ rw (follows_out e (a + 1) p q (inr past)) (unjoined_order y p q past (omega arith))
       ]
 
--- the links in the order in which they are made, and as the definition has them
-regroup : (f h l s b z : Bool) → (((f || h) || (l && (b || s))) || z) ≡ (f || ((l && (s || b)) || (h || z)))
-regroup f h l s b z = grind arith
-
 -- the last positions of r linked to what is behind it, and those of x to the end mark
 module _ (w u v w' : Work) (a k : ℕ) (e g : Expression) (r x : Parsed) (behind : List ℕ) (s : RuleSets) (low : a < 512) (big : 1024 ≤ length w) (big' : 1024 ≤ length u)
     (one : Linked w u r.part.last.words behind) (two : Linked u v x.part.last.words s.ends.words) (keeps : Keeps k v w' s)
@@ -156,8 +153,7 @@ module _ (w u v w' : Work) (a k : ℕ) (e g : Expression) (r x : Parsed) (behind
       let top = y.laid.within in
       let first-link = linked_order w u r.part.last.words behind one p q big (omega arith) in
       let second-link = linked_order u v x.part.last.words s.ends.words two p q big' (omega arith) in
-      rw (second-link, first-link, two_order m y p q h l, m.laid.ends p, y.laid.ends p, end_is q, behind_is q, trail_starts q, slash_is q)
-      (regroup (follows e (a + 1) p q) (follows g (slash e a + 1) p q) (last e (a + 1) p) (eqb q (slash e a)) _ _)
+      grind (arith, common_steps, first-link, second-link, two_order m y p q h l, m.laid.ends p, y.laid.ends p, end_is q, behind_is q, trail_starts q, slash_is q)
 
   pub joined_trailing : Joined a k w w' e (Some g)
   joined_trailing =

@@ -16,7 +16,7 @@ use Rattle.loaded.specs.declared.Loaded.{Loaded}
 use Rattle.loaded.specs.Zeros.{zeros}
 use Rattle.rulefile.specs.declared.RuleRead.{RuleRead}
 use Rattle.rulefile.specs.declared.lines.TextLines.{TextLines}
-use Rattle.rulefile.specs.declared.Progress.{Progress}
+use Rattle.rulefile.specs.declared.progress.Progress.{Progress}
 use Rattle.rulefile.specs.declared.Counts.{Counts}
 use Rattle.rulefile.specs.Lines.{left}
 use Rattle.rulefile.specs.Marks.{gives}

@@ -19,6 +19,7 @@ ghost use Rattle.rulefile.specs.Sections.{steps_behind, LineGives, FirstGives, A
 ghost use Rattle.rulefile.specs.Shown.{shown};
 
 mod lines;
+mod progress;
 
 use actions::{Steps, action};
 use bits::{Bits, ConditionSet, PositionSet};
@@ -28,6 +29,7 @@ use grammar::{Fault, Read, Refusal, misfit, refused};
 use lines::{TextLine, TextLines};
 use loaded::{Loaded, Rule};
 use positions::{Fragment, POSITIONS, leaf, link};
+use progress::{Place, Progress};
 use std::fmt;
 use tokens::{Kind, passes, span, stands};
 
@@ -38,7 +40,7 @@ pub const RULES: usize = 64;
 
 // The sets of the work memory, 32,768 words of 64 bits in all: the bytes of each position, the positions that may follow
 // it, then for each rule the positions that it begins with, those that its trailing part begins with, its end mark, and
-// its slash mark.
+// its slash mark. Positions are numbers, and the memory is lent and fixed, as the library has no heap.
 pub const WORK_SETS: usize = 4096;
 
 pub const FIRSTS: usize = 1024;
@@ -71,13 +73,6 @@ struct RuleSets {
 struct RuleRead {
     rule: Rule,
     used: usize,
-}
-
-// How many rules are read so far, and how many positions they use.
-#[derive(Clone, Copy)]
-struct Progress {
-    rules: usize,
-    positions: usize,
 }
 
 impl fmt::Display for Counts {
@@ -133,11 +128,11 @@ fn marked_newline(work: &mut [PositionSet; WORK_SETS], at: usize, p: usize) -> P
     }
 }
 
-// Writes the sets of rule k.
-fn keep(work: &mut [PositionSet; WORK_SETS], k: usize, sets: &RuleSets)
-    requires { k < 64 }
-    ensures { Keeps k work.old work.new sets.now }
+// Writes the sets of the rule at the place.
+fn keep(work: &mut [PositionSet; WORK_SETS], place: Place, sets: &RuleSets)
+    ensures { Keeps place.rule work.old work.new sets.now }
 {
+    let k = place.rule;
     work[FIRSTS + k] = sets.firsts;
     work[TRAILS + k] = sets.trail;
     work[ENDS + k] = sets.ends;
@@ -145,11 +140,10 @@ fn keep(work: &mut [PositionSet; WORK_SETS], k: usize, sets: &RuleSets)
 }
 
 // Behind the last positions of r comes the end mark; there is no slash mark.
-fn without_trailing(work: &mut [PositionSet; WORK_SETS], k: usize, end: usize, r: &Parsed)
-    requires { (k < 64) × (end < 512) }
-    ensures { (e : Expression) → Unjoined work.old end e r.now → Joined end k work.old work.new e None }
+fn without_trailing(work: &mut [PositionSet; WORK_SETS], place: Place, r: &Parsed)
+    ensures { (e : Expression) → Unjoined work.old place.end e r.now → Joined place.end place.rule work.old work.new e None }
 {
-    let ends = Bits::only(end);
+    let ends = Bits::only(place.end);
     link(work, &r.part.last, &ends);
     let sets = RuleSets {
         firsts: r.part.first,
@@ -157,7 +151,7 @@ fn without_trailing(work: &mut [PositionSet; WORK_SETS], k: usize, end: usize, r
         ends,
         slashes: Bits::empty(),
     };
-    keep(work, k, &sets);
+    keep(work, place, &sets);
 }
 
 // Where x may begin, and where what may be empty may end.
@@ -172,11 +166,10 @@ fn trail_start(x: &Fragment, ends: &PositionSet) -> PositionSet
 }
 
 // Behind the last positions of r come the slash mark and the trail start, and behind those of x the end mark.
-fn with_trailing(work: &mut [PositionSet; WORK_SETS], k: usize, end: usize, r: &Parsed, x: &Parsed)
-    requires { (k < 64) × (end < 512) }
-    ensures { (e g : Expression) → Unjoined work.old end e r.now → Unjoined work.old r.now.used g x.now → Joined end k work.old work.new e (Some g) }
+fn with_trailing(work: &mut [PositionSet; WORK_SETS], place: Place, r: &Parsed, x: &Parsed)
+    ensures { (e g : Expression) → Unjoined work.old place.end e r.now → Unjoined work.old r.now.used g x.now → Joined place.end place.rule work.old work.new e (Some g) }
 {
-    let ends = Bits::only(end);
+    let ends = Bits::only(place.end);
     let slashes = Bits::only(r.used);
     let trail = trail_start(&x.part, &ends);
     link(work, &r.part.last, &trail.either(&slashes));
@@ -187,7 +180,7 @@ fn with_trailing(work: &mut [PositionSet; WORK_SETS], k: usize, end: usize, r: &
         ends,
         slashes,
     };
-    keep(work, k, &sets);
+    keep(work, place, &sets);
 }
 
 // The trailing part behind r, if there is one: what `$` stands for, or the alternation behind a `/`.
@@ -224,24 +217,22 @@ fn used_with(x: &Parsed) -> Read<usize>
     }
 }
 
-// The pattern at `at` of the rule behind those that are done: an end mark, r, and a trailing part or none. The value is
-// how many positions are used then.
+// The pattern at `at`: an end mark, r, and a trailing part or none. The value is how many positions are used then.
 fn pattern_at(
     s: &[u8],
     at: usize,
-    done: Progress,
+    place: Place,
     work: &mut [PositionSet; WORK_SETS],
 ) -> Result<Read<usize>, Fault>
-    requires { (done.rules < 64) × (done.positions < 512) }
-    ensures gives { PatternGives (pattern_at s.now at (done.positions + 1)) done.positions done.rules work.old work.new result }
+    ensures gives { PatternGives (pattern_at s.now at (place.end + 1)) place.end place.rule work.old work.new result }
     ensures moves { Moves result at (length s.now) }
 {
-    let r = marked_expression(s, at, done.positions, work)?;
+    let r = marked_expression(s, at, place.end, work)?;
     let Some(x) = trailing(s, &r, work)? else {
-        without_trailing(work, done.rules, done.positions, &r);
+        without_trailing(work, place, &r);
         return Ok(used_with(&r));
     };
-    with_trailing(work, done.rules, done.positions, &r, &x);
+    with_trailing(work, place, &r, &x);
     Ok(used_with(&x))
 }
 
@@ -274,15 +265,14 @@ fn rule_body(
     s: &[u8],
     active: &Read<ConditionSet>,
     conditions: &Conditions,
-    done: Progress,
+    place: Place,
     work: &mut [PositionSet; WORK_SETS],
 ) -> Result<RuleRead, Fault>
-    requires { (done.rules < 64) × (done.positions < 512) }
-    ensures { LineGives (behind_active s.now (known conditions.now) done.positions (picked_of active.now)) done.positions done.rules work.old work.new result }
+    ensures { LineGives (behind_active s.now (known conditions.now) place.end (picked_of active.now)) place.end place.rule work.old work.new result }
 {
     let anchored = stands(s, active.next, b'^');
-    let pattern = pattern_at(s, past_anchor(s, active.next), done, work)?;
-    let action = steps_behind(s, pattern.next, conditions)?;
+    let Read { value: used, next } = pattern_at(s, past_anchor(s, active.next), place, work)?;
+    let action = steps_behind(s, next, conditions)?;
     let steps = action.list;
     Ok(RuleRead {
         rule: Rule {
@@ -291,7 +281,7 @@ fn rule_body(
             trail: 0,
             steps,
         },
-        used: pattern.value,
+        used,
     })
 }
 
@@ -308,11 +298,11 @@ fn rule_line(
     if !first.is_some_and(|b| starts_rule(*b)) {
         return Err(misfit(line.start));
     }
-    if done.rules >= RULES || done.positions >= POSITIONS {
+    let Some(place) = done.place() else {
         return Err(refused(Refusal::LimitPassed, line.start));
-    }
+    };
     let active = conditions.active(line.text, line.start)?;
-    rule_body(line.text, &active, conditions, done, work)
+    rule_body(line.text, &active, conditions, place, work)
 }
 
 // Declarations up to a line `%%`; the lines behind it are left.
@@ -370,7 +360,7 @@ fn second_section(
     Ok(done)
 }
 
-// Both sections, into loaded memory that is zeros.
+// Both sections, into loaded memory that is zeros. A caller that lends a part of a slice knows its length only from here.
 fn sections(
     file: &[u8],
     loaded: &mut Loaded,

@@ -1,7 +1,6 @@
 // The lines of a rule file that are not empty, one after another.
 ghost use Rattle.std.specs.Prelude.{◌≡◌, ◌≤◌, length};
 
-use std::iter::Iterator;
 use tokens::line_at;
 
 // A line without its trailing blanks: the file up to the line's end, and where the line starts.
@@ -26,9 +25,7 @@ impl TextLine<'_> {
     pub(crate) fn divides(&self) -> bool
         ensures { result ≡ divides_in self.now.text.now self.now.start }
     {
-        self.text
-            .get(self.start..)
-            .is_some_and(|text| text == b"%%".as_slice())
+        self.text.get(self.start..) == Some(b"%%".as_slice())
     }
 }
 
@@ -56,7 +53,7 @@ impl<'a> Iterator for TextLines<'a> {
     ghost remaining = { item_count left };
 
     fn next(&mut self) -> Option<TextLine<'a>> {
-        // A `while`: how long a line is shows when it is read.
+        // By its place in the file, as a fault names it; a `split` would give the line's bytes alone.
         while self.at < self.file.len() {
             let start = self.at;
             let line = line_at(self.file, start);
