@@ -21,20 +21,19 @@ use tokens::{Token, literal, number_at, stands};
 
 // The step that this word at n stands for.
 fn worded(s: &[u8], n: usize, word: &[u8], step: Step) -> Result<Read<Step>, Fault>
-    requires { 0 < length word.now }
     ensures is { result ≡ then (literal_at word.now s.now n) (read step) }
-    ensures past { IfOk result (Past s.now n (stage_after step)) }
+    ensures past { 0 < length word.now → IfOk result (Past s.now n (stage_after step)) }
 {
     let next = literal(s, n, word)?;
     Ok(Read { value: step, next })
 }
 
-// The number at n, which has to be within its bounds, and what closes it.
+// The number at n, which has to be within its bounds, and what closes it. The bounds are two numbers: a RangeInclusive
+// also says whether it is used up, which the contract would have to rule out.
 fn numeral(s: &[u8], n: usize, low: usize, high: usize, behind: &[u8]) -> Result<Read<usize>, Fault>
-    requires { 0 < length behind.now }
     ensures is { (make : ℕ → Step) → made_by make result ≡ numeral_at s.now low high make behind.now n }
     ensures most { IfOk result (λ x. x.value ≤ high) }
-    ensures moves { Moves result n (length s.now) }
+    ensures moves { 0 < length behind.now → Moves result n (length s.now) }
 {
     let Some(Token::Number(digits)) = number_at(s, n, 4) else {
         return Err(misfit(n));

@@ -124,7 +124,7 @@ impl Conditions {
         })
     }
 
-    // With the name at n, which no condition has yet.
+    // With the name at n, which no condition has yet. `inclusive` is a truth of that condition, as in the grammar.
     fn declare(self, s: &[u8], n: usize, inclusive: bool) -> Result<Read<Conditions>, Fault>
         ensures is { reads result ≡ declare_at s.now inclusive (known self) n }
         ensures moves { IfOk result (λ d. (n < d.next) × (d.next ≤ length s.now)) }

@@ -3,6 +3,6 @@ use Rattle.actions.proofs.Parts.{word_moves}
 use Rattle.actions.proofs.numeral.Goals as goal
 
 pub returns-clause-moves : goal.returns-clause-moves
-returns-clause-moves c =
-    let m = word_moves c.args.s.now c.args.behind.now _ c.in_ok-next.next c.requires c.in_ok-next.ensures in
+returns-clause-moves c some =
+    let m = word_moves c.args.s.now c.args.behind.now _ c.in_ok-next.next some c.in_ok-next.ensures in
     (omega (arith, m.0), m.1)
