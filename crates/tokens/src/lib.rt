@@ -66,12 +66,19 @@ pub fn span(s: &[u8], n: usize, most: usize, kind: Kind) -> usize
     leading(s, n, most, kind)
 }
 
+// What stands from n on. (A chain's `skip` would walk to n.)
+fn from(s: &[u8], n: usize) -> &[u8]
+    ensures { result.now ≡ drop n s.now }
+{
+    s.get(n..).unwrap_or(&[])
+}
+
 // The same by the list of those bytes.
 fn leading(s: &[u8], n: usize, most: usize, kind: Kind) -> usize
     ensures { result ≡ length (take_while (holds kind) (take most (drop n s.now))) }
 {
-    s.iter()
-        .skip(n)
+    from(s, n)
+        .iter()
         .take(most)
         .take_while(|b| is(kind, **b))
         .count()
@@ -116,7 +123,7 @@ fn common(s: &[u8], n: usize, word: &[u8]) -> usize
     ensures { result ≡ length (take_while (λ pair. pair.1 == pair.0) (zip word.now (drop n s.now))) }
 {
     word.iter()
-        .zip(s.iter().skip(n))
+        .zip(from(s, n))
         .take_while(|(b, there)| there == b)
         .count()
 }
