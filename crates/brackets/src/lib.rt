@@ -97,6 +97,7 @@ fn bytes_where<F: Fn(u8) -> bool>(test: F) -> ByteSet
     ensures within { (b : ℕ) → 256 ≤ b → has result.words b ≡ false }
 {
     let mut set = Bits::empty();
+    // Over the bytes themselves; no index.
     for b in 0..256 {
         if test(b as u8) {
             set.insert(b);

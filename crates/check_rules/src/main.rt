@@ -21,10 +21,9 @@ fn rules_file(rt: &HostRuntime) -> anyhow::Result<Vec<u8>> {
 }
 
 fn explain(rt: &HostRuntime, file: &[u8], fault: Fault) -> anyhow::Result<()> {
-    let Fault { refusal, place } = fault;
-    println!(rt; "load {} {place}", u8::from(refusal))?;
-    let location = locate(file, place);
-    println!(rt; "rules.l:{location}: {refusal}")?;
+    println!(rt; "load {fault}")?;
+    let location = locate(file, fault.place);
+    println!(rt; "rules.l:{location}: {}", fault.refusal)?;
     println!(rt; "{}", ShownLine(&file[location.start..location.end]))?;
     println!(rt; "{}", Caret(location.column))?;
     Ok(())

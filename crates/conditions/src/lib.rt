@@ -8,7 +8,7 @@ ghost use Rattle.conditions.specs.Spelt.{NameAt, NoName};
 use bits::{Bits, ConditionSet};
 use finder::{Found, Full, Name};
 use grammar::{Fault, Read, Refusal, misfit, refused};
-use tokens::{Kind, Token, name_at, passes, span, stands};
+use tokens::{Token, behind_blanks, name_at, stands};
 
 // How many conditions a file may have, INITIAL among them.
 pub const CONDITIONS: usize = 8;
@@ -48,6 +48,7 @@ fn included(set: ConditionSet, k: usize, inclusive: bool) -> ConditionSet
 }
 
 impl Conditions {
+    ghost use Rattle.grammar.specs.Outcome.{Moves};
     ghost use Rattle.grammar.specs.Conditions.{only_initial, condition_at, picked_at, active_at, declare_at, declare_more, declared as declared_at, declaration as declaration_at};
     ghost use Rattle.conditions.specs.Known.{known, picks, declares, declared_from, reads};
 
@@ -75,7 +76,7 @@ impl Conditions {
     pub fn named(&self, s: &[u8], n: usize) -> Result<Read<u8>, Fault>
         ensures is { result ≡ condition_at s.now (known self.now) n }
         ensures small { IfOk result (λ k. k.value < 8) }
-        ensures moves { IfOk result (λ k. (n < k.next) × (k.next ≤ length s.now)) }
+        ensures moves { Moves result n (length s.now) }
     {
         let spelt = spelt_at(s, n)?;
         match finder::find(&self.names[0..self.count], &spelt.value) {
@@ -90,7 +91,7 @@ impl Conditions {
     // The conditions that are named from n on, divided by commas, up to a `>`.
     fn list(&self, s: &[u8], n: usize) -> Result<Read<ConditionSet>, Fault>
         ensures is { picks result ≡ picked_at s.now (known self.now) n }
-        ensures moves { IfOk result (λ p. (n < p.next) × (p.next ≤ length s.now)) }
+        ensures moves { Moves result n (length s.now) }
     {
         let first = self.named(s, n)?;
         let mut picked = Read {
@@ -124,10 +125,10 @@ impl Conditions {
         })
     }
 
-    // With the name at n, which no condition has yet. `inclusive` is a truth of that condition, as in the grammar.
+    // With the name at n, which no condition has yet. `inclusive` says whether it is, as in the grammar.
     fn declare(self, s: &[u8], n: usize, inclusive: bool) -> Result<Read<Conditions>, Fault>
         ensures is { reads result ≡ declare_at s.now inclusive (known self) n }
-        ensures moves { IfOk result (λ d. (n < d.next) × (d.next ≤ length s.now)) }
+        ensures moves { Moves result n (length s.now) }
     {
         let spelt = spelt_at(s, n)?;
         let mut names = self.names;
@@ -148,13 +149,9 @@ impl Conditions {
     // With the name behind the blanks at n, of which there is at least one.
     fn declare_behind(self, s: &[u8], n: usize, inclusive: bool) -> Result<Read<Conditions>, Fault>
         ensures is { reads result ≡ declare_more s.now inclusive (declared_from self n) }
-        ensures moves { IfOk result (λ d. (n < d.next) × (d.next ≤ length s.now)) }
+        ensures moves { Moves result n (length s.now) }
     {
-        if !passes(s, n, Kind::Blank) {
-            return Err(misfit(n));
-        }
-        let blanks = span(s, n, s.len(), Kind::Blank);
-        self.declare(s, n + blanks, inclusive)
+        self.declare(s, behind_blanks(s, n)?, inclusive)
     }
 
     // With the names from n on, one or more, up to the line's end.

@@ -100,7 +100,7 @@ fn formed(work: &mut Work, interval: Interval, k: usize, x: &Fragment) -> Fragme
 }
 
 // The copies of x, whose `size` positions begin at `base`, side by side. From the last to the first, so that the
-// original is copied before anything is joined to it.
+// original is copied before anything is joined to it; k is the number of a copy, and indexes nothing.
 fn copies(work: &mut Work, base: usize, size: usize, interval: Interval, x: &Fragment) -> Fragment
     requires { base + suc (extra_of interval) * size ≤ 512 }
     ensures { Copies interval base size work.old work.new x.now result }
@@ -259,7 +259,8 @@ fn quote(s: &[u8], at: usize, used: usize, work: &mut Work) -> Result<Parsed, Fa
 }
 
 // The text, the depth and the work memory go through the cycle as parameters: a parser's contracts would each have to say
-// that its text is unchanged, which `&[u8]` says by its type.
+// that its text is unchanged, which `&[u8]` says by its type. `all` and `base` stay two, as each turn gives a new `all`
+// over the same `base`. `branch` and `alternation` stay two functions: in a cycle no closure can lend the work memory.
 #[cycle(alternation_alternative_atom_branch_extended_group_piece)]
 fn group(s: &[u8], at: usize, used: usize, depth: usize, work: &mut Work) -> Result<Parsed, Fault>
     requires { at < length s.now }

@@ -1,7 +1,8 @@
 // What a rule file can say, and how it is turned down. The grammar itself stands in specs/, a definition for each of its sentences.
 #![tactic(auto)]
 
-ghost use Rattle.std.specs.Prelude.{◌≡◌, Some};
+ghost use Rattle.std.specs.Prelude.{◌≡◌, ◌∷◌, ◌++◌, Some};
+ghost use Rattle.std.specs.Fmt.{decimal};
 ghost use Rattle.grammar.specs.declared.Refusal.TheVariants.{Misfit};
 ghost use Rattle.grammar.specs.Outcome.{fault as fault_of};
 ghost use Rattle.grammar.specs.Refusals.{number_of, words_of};
@@ -53,7 +54,8 @@ pub enum Stage {
     Ended,
 }
 
-// What is read: a byte, a set of bytes, a condition, an interval, a step; and the place behind it.
+// What is read: a byte, a set of bytes, a condition, an interval, a step, or how many positions it takes; and the place
+// behind it.
 #[derive(Clone, Copy)]
 pub struct Read<T> {
     pub value: T,
@@ -69,20 +71,35 @@ impl From<Refusal> for u8 {
     }
 }
 
-// A refusal in words.
 impl fmt::Display for Refusal {
     ghost output = { λ refusal. Some (words_of refusal) };
 
     fn fmt<W: fmt::Write>(&self, f: &mut fmt::Formatter<W>) -> fmt::Result {
-        f.write_str(match self {
-            Refusal::Memory => "the work memory is too small",
-            Refusal::FileTooLong => "the file is longer than 8,192 bytes",
-            Refusal::Misfit => "this does not fit the grammar here",
-            Refusal::UnknownName => "no condition or class has this name",
-            Refusal::DeclaredAgain => "this condition is declared already",
-            Refusal::OutOfBounds => "this number or range is out of bounds",
-            Refusal::LimitPassed => "this passes a limit of the rule file",
-        })
+        f.write_str(describe(*self))
+    }
+}
+
+// The number of the refusal, and the place.
+impl fmt::Display for Fault {
+    ghost output = { λ fault. Some (decimal (number_of fault.refusal) ++ (32 ∷ decimal fault.place)) };
+
+    fn fmt<W: fmt::Write>(&self, f: &mut fmt::Formatter<W>) -> fmt::Result {
+        write!(f, "{} {}", u8::from(self.refusal), self.place)
+    }
+}
+
+// A refusal in words.
+pub fn describe(refusal: Refusal) -> &'static str
+    ensures { result.now ≡ words_of refusal }
+{
+    match refusal {
+        Refusal::Memory => "the work memory is too small",
+        Refusal::FileTooLong => "the file is longer than 8,192 bytes",
+        Refusal::Misfit => "this does not fit the grammar here",
+        Refusal::UnknownName => "no condition or class has this name",
+        Refusal::DeclaredAgain => "this condition is declared already",
+        Refusal::OutOfBounds => "this number or range is out of bounds",
+        Refusal::LimitPassed => "this passes a limit of the rule file",
     }
 }
 

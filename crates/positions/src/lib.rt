@@ -7,7 +7,8 @@ ghost use Rattle.positions.specs.Memory.{Leaf, Linked, Sequence, Choice, Repeats
 
 use bits::{Bits, ByteSet, PositionSet};
 
-// How many positions a rule file may have, marks among them.
+// How many positions a rule file may have, marks among them. Positions are numbers, and what follows position p is set
+// POSITIONS + p of the work memory: that is lent and fixed, as the library has no heap.
 pub const POSITIONS: usize = 512;
 
 // A part of a pattern by its positions: whether it can be empty, and where its strings begin and end.
@@ -138,7 +139,8 @@ fn is_copiable(work: &[PositionSet], from: usize, count: usize, by: usize) -> bo
         && count <= POSITIONS - by - from
 }
 
-// Copies `count` sets from `from` on to `by` further up.
+// Copies `count` sets from `from` on to `by` further up. The three stay three numbers: what holds of them is said of the
+// work memory too, which no struct of the three has.
 fn copy_sets(work: &mut [PositionSet], from: usize, count: usize, by: usize)
     requires { (count ≤ by) × (from + count + by ≤ length work.old) }
     ensures { (k q : ℕ) → member work.new k q ≡ (if between (from + by) (from + count + by) k then member work.old (k - by) q else member work.old k q) }
@@ -155,7 +157,7 @@ fn shift_sets(sets: &mut [PositionSet], by: usize)
     }
 }
 
-// The same, with each member of the copies moved up as well.
+// As `copy_sets`, with each member of the copies moved up as well.
 fn move_sets(work: &mut [PositionSet], from: usize, count: usize, by: usize)
     requires { (count ≤ by) × (from + count + by ≤ length work.old) }
     ensures { (k q : ℕ) → member work.new k q ≡ (if between (from + by) (from + count + by) k then nat_lt q 512 && (nat_le by q && member work.old (k - by) (q - by)) else member work.old k q) }

@@ -94,6 +94,7 @@ impl fmt::Display for Caret {
     ghost output = { λ column. Some (caret_in column.0) };
 
     fn fmt<W: fmt::Write>(&self, f: &mut fmt::Formatter<W>) -> fmt::Result {
+        // As often as there are columns before it; no index.
         for _ in 1..self.0 {
             f.write_char(' ')?;
         }

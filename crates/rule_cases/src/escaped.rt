@@ -124,6 +124,7 @@ fn run(heap: Global, text: &[u8], from: usize, out: &mut Vec<u8>) -> anyhow::Res
     let mut bytes = Vec::new(heap);
     let end = units(text, count.next + 1, &mut bytes)?;
     ensure!(bracket(text, end, b']'), "a run is not closed");
+    // As often as the count says; no index.
     for _ in 0..count.value {
         out.extend_from_slice(bytes.as_slice())?;
     }

@@ -17,9 +17,7 @@ fn show(rt: &HostRuntime, name: &str, file: &[u8], work: &mut [PositionSet]) -> 
     let mut loaded = Loaded::zeros();
     match read_rules(file, &mut loaded, work) {
         Ok(counts) => println!(rt; "{name}: {counts}")?,
-        Err(fault) => {
-            println!(rt; "{name}: load {} {}", u8::from(fault.refusal), fault.place)?;
-        }
+        Err(fault) => println!(rt; "{name}: load {fault}")?,
     }
     Ok(())
 }

@@ -31,7 +31,7 @@ use loaded::{Loaded, Rule};
 use positions::{Fragment, POSITIONS, leaf, link};
 use progress::{Place, Progress};
 use std::fmt;
-use tokens::{Kind, passes, span, stands};
+use tokens::{behind_blanks, stands};
 
 // The most bytes that a rule file may have, and the most rules.
 pub const FILE_BYTES: usize = 8192;
@@ -87,7 +87,8 @@ impl fmt::Display for Counts {
     }
 }
 
-// A position that takes no byte: a mark.
+// A position that takes no byte: a mark. Here and below p is a plain number and no type of its own, since the next
+// position is p + 1 again, and what is below 512 then has to be said of that.
 fn mark(work: &mut [PositionSet; WORK_SETS], p: usize)
     requires { p < 512 }
     ensures bytes { (b : ℕ) → member work.new p b ≡ false }
@@ -254,10 +255,7 @@ fn past_anchor(s: &[u8], n: usize) -> usize
 fn steps_behind(s: &[u8], n: usize, conditions: &Conditions) -> Result<Steps, Fault>
     ensures { does result ≡ steps_behind s.now (known conditions.now) n }
 {
-    if !passes(s, n, Kind::Blank) {
-        return Err(misfit(n));
-    }
-    action(s, n + span(s, n, s.len(), Kind::Blank), conditions)
+    action(s, behind_blanks(s, n)?, conditions)
 }
 
 // What stands behind the conditions of a rule: its pattern and its action.

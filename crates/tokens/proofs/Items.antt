@@ -4,8 +4,8 @@ use Rattle.std.specs.List.{take_while, zip}
 use Rattle.std.proofs.Math.Seq.{drop-cons}
 use Rattle.std.proofs.lemmas.List.Sums.{take_while-cons}
 use native.Mathlib.Nat.{pow-le-pow_right}
-use Rattle.std.proofs.lemmas.Bool.{and_parts, and_left}
-use Rattle.std.proofs.lemmas.List.{drop_all}
+use Rattle.std.proofs.lemmas.Bool.{and_parts, and_left, cases_eq}
+use Rattle.std.proofs.lemmas.List.{drop_all, get_or-take, get_or-drop}
 use Rattle.grammar.specs.declared.Refusal.TheVariants.{Misfit}
 use Rattle.grammar.specs.Outcome.{refused}
 use Rattle.grammar.specs.Bytes.{passes, stands, span, literal, blank, digit, name_start, name_byte, name_length, digits, value, number}
@@ -236,36 +236,37 @@ literal_moves (b ∷ bs) s n m e h = at (stands s n b) refl e (literal_moves bs 
         (r.0, omega (arith, r.1))
     at false q e more = let z : ◌≡◌ {A = ℕ} 0 1 = cc in absurd (omega arith)
 
-pub trimmed_stops : (file : List ℕ) (at n : ℕ) → false ≡ blank (get_or file (at + n) 0) → trimmed file at (suc n) ≡ at + suc n
-unfolding trimmed
-trimmed_stops file at n e = rw (sym e)
+-- the bytes before n, of which all are blank, or i is the last that is not
+module _ (s : List ℕ) where
+  pub all_blank : (n : ℕ) → ((k : ℕ) → k < n → blank (get_or s k 0) ≡ true) → trimmed s 0 n ≡ 0
+  unfolding trimmed
+  all_blank zero h = refl
+  all_blank (suc n) h =
+      let z : 0 + n ≡ n = omega arith in
+      rw (z, h n (omega arith)) (all_blank n (λ k lt. h k (omega arith)))
 
-pub trimmed_goes : (file : List ℕ) (at n : ℕ) → true ≡ blank (get_or file (at + n) 0) → trimmed file at (suc n) ≡ trimmed file at n
-unfolding trimmed
-trimmed_goes file at n e = rw (sym e)
+  pub last_byte : (n i : ℕ) → i < n → blank (get_or s i 0) ≡ false → ((k : ℕ) → i + 1 ≤ k → k < n → blank (get_or s k 0) ≡ true) → trimmed s 0 n ≡ i + 1
+  unfolding trimmed
+  last_byte zero i lt e h = absurd (omega arith)
+  last_byte (suc n) i lt e h =
+      let z : 0 + n ≡ n = omega arith in
+      elim (cases_eq i n) [
+        | inl q ↦ rw (z, rw q at e) (omega arith)
+        | inr q ↦ rw (z, h n (omega arith) (omega arith)) (last_byte n i (omega arith) e (λ k l g. h k l (omega arith)))
+      ]
 
-pub trimmed_none : (file : List ℕ) (at : ℕ) → trimmed file at 0 ≡ at
-unfolding trimmed
-trimmed_none file at = refl
-
--- the loop from the end back
-module _ (file : List ℕ) (at end whole : ℕ) (h : trimmed file at (end - at) ≡ whole) where
-  pub trim_stops : at < end → false ≡ blank (get_or file (end - 1) 0) → end ≡ whole
-  trim_stops lt e =
-      let a : end - at ≡ suc (end - 1 - at) = omega arith in
-      let b : end - 1 ≡ at + (end - 1 - at) = omega arith in
-      omega (arith, h, ap (trimmed file at) a, trimmed_stops file at (end - 1 - at) (rw b at e))
-
-  pub trim_goes : at < end → true ≡ blank (get_or file (end - 1) 0) → trimmed file at (end - 1 - at) ≡ whole
-  trim_goes lt e =
-      let a : end - at ≡ suc (end - 1 - at) = omega arith in
-      let b : end - 1 ≡ at + (end - 1 - at) = omega arith in
-      omega (arith, h, ap (trimmed file at) a, trimmed_goes file at (end - 1 - at) (rw b at e))
-
-  pub trim_ends : end ≤ at → at ≡ whole
-  trim_ends le =
-      let a : end - at ≡ 0 = omega arith in
-      omega (arith, h, ap (trimmed file at) a, trimmed_none file at)
+  -- a part ends where the text does, counted from the part's start
+  pub part_trimmed : (at n k : ℕ) → k ≤ n → at + trimmed (take n (drop at s)) 0 k ≡ trimmed s at k
+  unfolding trimmed
+  part_trimmed at n zero h = omega arith
+  part_trimmed at n (suc k) h =
+      let z : 0 + k ≡ k = omega arith in
+      let g : get_or (take n (drop at s)) k 0 ≡ get_or s (at + k) 0 = get_or-take n (drop at s) k 0 (omega arith) ∙ get_or-drop at s k 0 in
+      rw (z, g) (by (blank (get_or s (at + k) 0)) (part_trimmed at n k (omega arith)))
+    where
+      by : (b : Bool) → at + trimmed (take n (drop at s)) 0 k ≡ trimmed s at k → at + cond b (trimmed (take n (drop at s)) 0 k) (0 + suc k) ≡ cond b (trimmed s at k) (at + suc k)
+      by true h = h
+      by false h = omega arith
 
 pub trimmed_within : (file : List ℕ) (at n : ℕ) → (at ≤ trimmed file at n) × (trimmed file at n ≤ at + n)
 unfolding trimmed

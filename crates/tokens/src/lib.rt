@@ -1,14 +1,20 @@
 // The smallest items of a rule file: bytes of a kind, names, numbers, fixed words, and lines without their trailing blanks.
+// A text and a place in it go as two parameters through this crate and those above: an outcome then equals the grammar's,
+// which has places, while a cursor in each outcome would have to be mapped to one in each contract.
 #![tactic(auto)]
 
-ghost use Rattle.std.specs.Prelude.{◌≡◌, ℕ, ◌+◌, ◌-◌, ◌^◌, ◌<◌, ◌≤◌, min, List, length, take, take_while, drop, zip, ◌==◌};
-ghost use Rattle.grammar.specs.Bytes.{stands as stands_at, passes as passes_at, span as span_at, part, digits as digits_at, number as number_at, literal as literal_at};
+ghost use Rattle.std.specs.Prelude.{◌≡◌, ℕ, ◌+◌, ◌-◌, ◌^◌, ◌<◌, ◌≤◌, min, List, length, take, take_while, drop, zip, cond, Ok, ◌==◌};
+ghost use Rattle.grammar.specs.Bytes.{blank, stands as stands_at, passes as passes_at, span as span_at, part, digits as digits_at, number as number_at, literal as literal_at};
+ghost use Rattle.grammar.specs.declared.Refusal.TheVariants.{Misfit};
+ghost use Rattle.grammar.specs.Outcome.{refused};
 ghost use Rattle.grammar.specs.Lines.{line_end, next_line, trimmed as trimmed_at};
 ghost use Rattle.tokens.specs.Kinds.{holds};
 ghost use Rattle.tokens.specs.Parts.{NameAt, NumberAt, value_of};
 
 use grammar::{Fault, misfit};
 
+// The kinds of bytes that public functions count. No closure in their place: it would have to be required that it can be
+// called, and no public function asks anything.
 #[derive(Clone, Copy, PartialEq, Eq)]
 pub enum Kind {
     Blank,
@@ -18,7 +24,8 @@ pub enum Kind {
     LineByte,
 }
 
-// An item of a rule file, which is a part of the file itself.
+// An item of a rule file, which is a part of the file itself. An enum, as a rule of the project: what is cut from lent bytes
+// is told by its case.
 #[derive(Clone, Copy)]
 pub enum Token<'a> {
     Name(&'a [u8]),
@@ -84,6 +91,16 @@ fn leading(s: &[u8], n: usize, most: usize, kind: Kind) -> usize
         .count()
 }
 
+// The place behind the blanks at n, of which there must be one.
+pub fn behind_blanks(s: &[u8], n: usize) -> Result<usize, Fault>
+    ensures { result ≡ cond (passes_at blank s.now n) (Ok (n + span_at blank (length s.now) s.now n)) (refused Misfit n) }
+{
+    if !passes(s, n, Kind::Blank) {
+        return Err(misfit(n));
+    }
+    Ok(n + span(s, n, s.len(), Kind::Blank))
+}
+
 // The name at n: its longest part that fits, at most 24 bytes.
 pub fn name_at<'a>(s: &'a [u8], n: usize) -> Option<Token<'a>>
     ensures { NameAt s.now n result }
@@ -139,17 +156,15 @@ pub fn literal(s: &[u8], n: usize, word: &[u8]) -> Result<usize, Fault>
     Ok(n + long)
 }
 
-// Where the bytes from `at` up to `end` end without their trailing blanks.
-fn trimmed(file: &[u8], at: usize, end: usize) -> usize
-    requires { (at ≤ end) × (at < end → end ≤ length file.now) }
-    ensures { result ≡ trimmed_at file.now at (end - at) }
+// How long these bytes are without their trailing blanks.
+fn trimmed(line: &[u8]) -> usize
+    ensures long { result ≡ trimmed_at line.now 0 (length line.now) }
+    ensures within { result ≤ length line.now }
 {
-    for last in (at..end).rev() {
-        if !is(Kind::Blank, file[last]) {
-            return last + 1;
-        }
+    match line.iter().rposition(|b| !is(Kind::Blank, *b)) {
+        Some(last) => last + 1,
+        None => 0,
     }
-    at
 }
 
 // The line that starts at `at`; past the file's end it is empty.
@@ -160,7 +175,7 @@ pub fn line_at(file: &[u8], at: usize) -> LineEnd
     let raw = span(file, at, file.len(), Kind::LineByte);
     let end = at + raw;
     LineEnd {
-        end: trimmed(file, at, end),
+        end: at + trimmed(&from(file, at)[..raw]),
         next: end.saturating_add(1),
     }
 }

@@ -1,20 +1,16 @@
-use Rattle.std.proofs.Common.{◌<◌, length, ⊎_elim, arith}
-use Rattle.std.proofs.lemmas.Bool.{cases_lt}
-use Rattle.grammar.specs.Lines.{not_newline}
-use Rattle.tokens.proofs.Items.{span_there, span_within, span_past}
+use Rattle.std.proofs.Common.{length, ap, arith}
+use Rattle.std.proofs.lemmas.List.{length-take, length-drop}
+use Rattle.tokens.proofs.Cut.{raw_room, line_ends}
 use Rattle.tokens.proofs.line_at.Goals as goal
 
 pub overflow_add-end : goal.overflow_add-end
 overflow_add-end c =
-    ⊎_elim
-    (λ lt. omega (arith, span_within not_newline c.args.file.now (length c.args.file.now) c.args.at (omega arith)))
-    (λ le. omega (arith, span_past not_newline c.args.file.now (length c.args.file.now) c.args.at le))
-    (cases_lt c.args.at (length c.args.file.now))
+    omega (arith, raw_room c.args.file.now c.args.at c.span-raw.result c.span-raw.ensures, length-drop c.args.at c.args.file.now)
 
-pub trimmed-requires : goal.trimmed-requires
-trimmed-requires c = (
-  omega arith,
-  λ lt.
-      let there : c.args.at < length c.args.file.now = span_there not_newline c.args.file.now (length c.args.file.now) c.args.at (omega arith) in
-      omega (arith, span_within not_newline c.args.file.now (length c.args.file.now) c.args.at (omega arith)),
-)
+pub slice_bounds-trimmed-end : goal.slice_bounds-trimmed-end
+slice_bounds-trimmed-end c =
+    omega (arith, length-take c.span-raw.result c.from.result.now, raw_room c.args.file.now c.args.at c.span-raw.result c.span-raw.ensures, ap length c.from.ensures)
+
+pub returns-clause-end : goal.returns-clause-end
+returns-clause-end c =
+    line_ends c.args.file.now c.from.result.now c.args.at c.span-raw.result c.trimmed.result c.from.ensures c.span-raw.ensures c.trimmed.ensures.long
