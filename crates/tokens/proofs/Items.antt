@@ -1,28 +1,21 @@
 -- How the loops over bytes follow the definitions, and the bounds of what is read.
-use Rattle.std.proofs.Common.{◌≡◌, ℕ, zero, suc, ◌+◌, ◌-◌, ◌*◌, ◌^◌, ◌<◌, ◌≤◌, Bool, true, false, ◌&&◌, cond, eqb, ltb, leb, ◌⊎◌, List, [], ◌∷◌, length, get_or, take, drop, Ok, sym, refl, ap, ◌∙◌, inl, inr, pow-suc, arith, ltb-true, ltb-false, le-ltb, eqb-true, leb-true}
+use Rattle.std.proofs.Common.{◌≡◌, ℕ, zero, suc, ◌+◌, ◌-◌, ◌*◌, ◌<◌, ◌≤◌, Bool, true, false, ◌&&◌, cond, eqb, ltb, ◌⊎◌, List, [], ◌∷◌, length, get_or, take, drop, Ok, sym, refl, ap, ◌∙◌, inl, inr, arith, ltb-true, ltb-false, le-ltb}
 use Rattle.std.specs.List.{take_while, zip}
 use Rattle.std.proofs.Math.Seq.{drop-cons}
 use Rattle.std.proofs.lemmas.List.Sums.{take_while-cons}
-use native.Mathlib.Nat.{pow-le-pow_right}
 use Rattle.std.proofs.lemmas.Bool.{and_parts, and_left}
 use Rattle.std.proofs.lemmas.List.{drop_all}
 use Rattle.grammar.specs.declared.Refusal.TheVariants.{Misfit}
 use Rattle.grammar.specs.Outcome.{refused}
-use Rattle.grammar.specs.Bytes.{passes, stands, span, literal, blank, digit, name_start, name_byte, name_length, digits, value, number}
+use Rattle.grammar.specs.Bytes.{passes, stands, span, literal, blank, name_start, name_byte, name_length, value}
 use Rattle.grammar.specs.Lines.{trimmed, not_newline, raw_length, line_end, next_line}
 
 -- a byte that is there stands before the end
 pub passes_below : (t : ℕ → Bool) (s : List ℕ) (n : ℕ) → true ≡ passes t s n → n < length s
 passes_below t s n e = ltb-true n (length s) (and_parts (ltb n (length s)) (t (get_or s n 0)) (sym e)).0
 
-pub passes_test : (t : ℕ → Bool) (s : List ℕ) (n : ℕ) → true ≡ passes t s n → t (get_or s n 0) ≡ true
-passes_test t s n e = (and_parts (ltb n (length s)) (t (get_or s n 0)) (sym e)).1
-
 pub stands_below : (s : List ℕ) (n b : ℕ) → true ≡ stands s n b → n < length s
 stands_below s n b e = ltb-true n (length s) (and_parts (ltb n (length s)) (eqb (get_or s n 0) b) (sym e)).0
-
-pub stands_is : (s : List ℕ) (n b : ℕ) → true ≡ stands s n b → get_or s n 0 ≡ b
-stands_is s n b e = eqb-true (get_or s n 0) b (and_parts (ltb n (length s)) (eqb (get_or s n 0) b) (sym e)).1
 
 module _ (t : ℕ → Bool) (s : List ℕ) where
   stop : (k n : ℕ) → passes t s n ≡ false → span t k s n ≡ 0
@@ -122,21 +115,6 @@ name_most s n = at (passes name_start s n) refl
     at true e = omega (arith, name_some s n e, span_most name_byte s 23 (suc n))
     at false e = omega (arith, name_none s n e)
 
--- each digit of a number is there and is one
-pub record DigitAt (s : List ℕ) (n : ℕ) : Type 0 where
-  pub below : n < length s
-  pub least : 48 ≤ get_or s n 0
-  pub most : get_or s n 0 ≤ 57
-
-pub digit_at : (s : List ℕ) (n : ℕ) → passes digit s n ≡ true → DigitAt s n
-digit_at s n e =
-    let p = and_parts (ltb n (length s)) (digit (get_or s n 0)) e in
-    let q = and_parts (leb 48 (get_or s n 0)) (leb (get_or s n 0) 57) p.1 in
-    record { below = ltb-true _ _ p.0; least = leb-true _ _ q.0; most = leb-true _ _ q.1 }
-
-pub digits_each : (s : List ℕ) (k n i : ℕ) → i < digits k s n → DigitAt s (n + i)
-digits_each s k n i h = digit_at s (n + i) (span_each digit s k n i h)
-
 pub value_none : (s : List ℕ) (n : ℕ) → value s n 0 ≡ 0
 unfolding value
 value_none s n = refl
@@ -144,25 +122,6 @@ value_none s n = refl
 pub value_more : (s : List ℕ) (n k : ℕ) → value s n (k + 1) ≡ value s n k * 10 + (get_or s (n + k) 0 - 48)
 unfolding value
 value_more s n k = let e : k + 1 ≡ suc k = omega arith in ap (value s n) e
-
--- k digits make a number below the k-th power of ten
-pub value_below : (s : List ℕ) (n k : ℕ) → ((i : ℕ) → i < k → get_or s (n + i) 0 ≤ 57) → value s n k < 10 ^ k
-unfolding value
-value_below s n zero h = omega arith
-value_below s n (suc k) h =
-    omega (arith, pow-suc 10 k, h k (omega arith), value_below s n k (λ i lt. h i (omega arith)))
-
-pub number_below : (k : ℕ) (s : List ℕ) (n : ℕ) → number k s n < 10 ^ k
-number_below k s n =
-    let a = value_below s n (digits k s n) (λ i lt. (digits_each s k n i lt).most) in
-    let ten : 0 < 10 = omega arith in
-    omega (arith, a, pow-le-pow_right ten (span_most digit s k n))
-
-pub number_two : (s : List ℕ) (n : ℕ) → number 2 s n < 100
-number_two s n = number_below 2 s n
-
-pub number_four : (s : List ℕ) (n : ℕ) → number 4 s n < 10000
-number_four s n = number_below 4 s n
 
 -- how many bytes of a word stand at n
 module _ (s : List ℕ) where
@@ -275,10 +234,6 @@ trimmed_within file at (suc n) = go (blank (get_or file (at + n) 0)) (trimmed_wi
     go : (b : Bool) → (at ≤ trimmed file at n) × (trimmed file at n ≤ at + n) → (at ≤ cond b (trimmed file at n) (at + suc n)) × (cond b (trimmed file at n) (at + suc n) ≤ at + suc n)
     go true h = (h.0, omega (arith, h.1))
     go false h = (omega arith, omega arith)
-
--- a line ends within the file, not before its start
-pub line_from : (file : List ℕ) (at : ℕ) → at ≤ line_end file at
-line_from file at = (trimmed_within file at (raw_length file at)).0
 
 pub line_within : (file : List ℕ) (at : ℕ) → at ≤ length file → line_end file at ≤ length file
 line_within file at h =
