@@ -1,15 +1,14 @@
 -- Expressions: each reading moves on within the text, counts the positions of its tree, and is refused within the text.
-use Rattle.std.proofs.Common.{◌≡◌, ℕ, zero, suc, ◌+◌, ◌*◌, ◌<◌, ◌≤◌, Bool, true, false, cond, ◌&&◌, eqb, ltb, leb, List, length, get_or, Some, None, Option, refl, suc-mul, zero-mul, arith}
+use Rattle.std.proofs.Common.{◌≡◌, ℕ, zero, suc, ◌+◌, ◌*◌, ◌<◌, ◌≤◌, Bool, true, false, cond, ◌&&◌, eqb, ltb, leb, List, length, get_or, Some, None, Option, refl, arith}
 use Rattle.std.proofs.lemmas.Bool.{and_parts, ltb-true, leb-true, not-false}
 use Rattle.patterns.specs.Expression.{Bytes, Expression, Then, Either}
 use Rattle.patterns.specs.Expression as expression
 use Rattle.patterns.specs.Positions.{size}
 use Rattle.grammar.specs.declared.Interval.{Interval}
-use Rattle.grammar.specs.declared.Interval.TheVariants.{Between, AtLeast}
 use Rattle.grammar.specs.declared.Read.{Read}
 use Rattle.grammar.specs.Outcome.{Out, many}
 use Rattle.grammar.specs.Bytes.{passes, stands, digit, digits, number}
-use Rattle.grammar.specs.Expressions.{Parsed, Parser, starts_atom, one_of, only_byte, bytes_at, one_at, quoted_byte, in_quotes, joined_by, quoted_more, past_quote, quote_at, closed_group, group_by, atom_by, repeat_mark, repeated_by, marked, repeated_more, piece_by, up_to, behind_low, bounds_at, copy_of, side_by_side, extra, repeated_over, branch_goes_on, branch_more, branch_by, bar_ahead, alternation_more, alternation_by, inside}
+use Rattle.grammar.specs.Expressions.{Parsed, Parser, starts_atom, one_of, only_byte, bytes_at, one_at, quoted_byte, in_quotes, joined_by, quoted_more, past_quote, quote_at, closed_group, group_by, atom_by, repeat_mark, repeated_by, marked, repeated_more, piece_by, up_to, behind_low, bounds_at, extra, repeated_over, branch_goes_on, branch_more, branch_by, bar_ahead, alternation_more, alternation_by, inside}
 use Rattle.grammar.proofs.Sizes.{side_size}
 use Rattle.tokens.proofs.Items.{span_within}
 use Rattle.laws.specs.Intervals.{Sound}
