@@ -1,30 +1,23 @@
 -- What is read moves on, and stays within the text.
-use Rattle.std.proofs.Common.{◌≡◌, ℕ, zero, suc, ◌+◌, ◌-◌, ◌<◌, ◌≤◌, Bool, true, false, cond, ◌&&◌, ◌||◌, eqb, ltb, ◌⊎◌, List, length, get_or, Some, None, Ok, Err, codes, Option, sym, refl, ap, inl, inr, ⊎_elim, arith, ltb-true}
-use Rattle.std.proofs.lemmas.Bool.{and_parts, not-false}
+use Rattle.std.proofs.Common.{◌≡◌, ℕ, ◌+◌, ◌<◌, ◌≤◌, Bool, true, false, cond, ◌&&◌, ◌||◌, eqb, ltb, ◌⊎◌, List, length, get_or, Some, None, Ok, codes, Option, sym, refl, ap, inl, inr, ⊎_elim, arith, ltb-true}
+use Rattle.std.proofs.lemmas.Bool.{and_parts}
 use Rattle.patterns.specs.Expression.{Bytes}
 use Rattle.classes.specs.declared.Class.{Class}
 use Rattle.classes.specs.Posix.{members, class_named}
 use Rattle.grammar.specs.declared.Read.{Read}
-use Rattle.grammar.specs.declared.Fault.{Fault}
 use Rattle.grammar.specs.declared.Refusal.TheVariants.{Misfit}
-use Rattle.grammar.specs.Outcome.{Out, refused, read, then, many}
+use Rattle.grammar.specs.Outcome.{Out, refused, read, then}
 use Rattle.grammar.specs.Bytes.{stands, part, name_length, literal}
-use Rattle.grammar.specs.Brackets.{escapable, escape_at, element_at, reserved, range_ahead, range_end, ranged, from_element, closed_class, class_at, dash, member_at, in_bracket, joined, member_more, members_at, closed_bracket, bracket_at}
+use Rattle.grammar.specs.Brackets.{escapable, escape_at, element_at, reserved, range_ahead, range_end, ranged, from_element, closed_class, class_at, dash, member_at}
+use Rattle.tokens.proofs.Follow.{no_ok, then_ok}
 use Rattle.tokens.proofs.Items.{stands_below, name_within, literal_moves}
 
 pub by_cond : {X : Type 0} (b : Bool) (x y z : X) → cond b x y ≡ z → ((b ≡ true) × (x ≡ z)) ⊎ ((b ≡ false) × (y ≡ z))
 by_cond true x y z e = inl (refl, e)
 by_cond false x y z e = inr (refl, e)
 
-pub no_ok : {X : Type 0} (f : Fault) (x : X) → ◌≡◌ {A = Out X} (Err f) (Ok x) → ⊥
-no_ok f x e = let z : ◌≡◌ {A = ℕ} 0 1 = cc in omega arith
-
 pub ok_same : {X : Type 0} (x y : X) → ◌≡◌ {A = Out X} (Ok x) (Ok y) → x ≡ y
 ok_same x y e = cc
-
-pub then_ok : {X Y : Type 0} (o : Out X) (f : X → Out Y) (y : Y) → then o f ≡ Ok y → (x : X) × (o ≡ Ok x) × (f x ≡ Ok y)
-then_ok (Ok x) f y e = (x, refl, e)
-then_ok (Err q) f y e = absurd (no_ok q y e)
 
 pub escape_moves : (s : List ℕ) (n : ℕ) (e : Read ℕ) → escape_at s n ≡ Ok e → (e.next ≡ n + 1) × (n < length s)
 escape_moves s n e h =
@@ -114,40 +107,3 @@ member_moves s first n c h =
         let t = then_ok (element_at s n) (from_element s n) c p.1 in
         from_moves s n t.0 c (element_moves s n t.0 t.1) t.2)
         (by_cond (reserved s n) _ _ _ h)
-
--- the loop over members ends before a `]`, since each turn takes a byte and there are turns enough
-many_closes : (s : List ℕ) (k : ℕ) (c d : Read Bytes) → c.next ≤ length s → length s - c.next < k → many (in_bracket s) (member_more s) k c ≡ Ok d → (c.next ≤ d.next) × (d.next < length s)
-unfolding many
-many_closes s zero c d le room h = absurd (omega arith)
-many_closes s (suc k) c d le room h =
-    ⊎_elim
-    (λ p.
-    let t = then_ok (member_more s c) (many (in_bracket s) (member_more s) k) d p.1 in
-    let u = then_ok (member_at s false c.next) (joined c) t.0 t.1 in
-    let q : u.0.next ≡ t.0.next = chosen_next _ _ t.0 u.2 in
-    let m = member_moves s false c.next u.0 u.1 in
-    let r = many_closes s k t.0 d (omega (arith, q, m.1)) (omega (arith, q, m.0, m.1)) t.2 in
-    (omega (arith, q, m.0, r.0), r.1))
-    (λ p.
-    let q : c.next ≡ d.next = ap (λ (x : Read Bytes). x.next) (ok_same c d p.1) in
-    let lt : c.next < length s = stands_below s c.next 93 (sym (not-false (stands s c.next 93) p.0)) in
-    (omega (arith, q), omega (arith, q, lt)))
-    (by_cond (in_bracket s c) _ _ _ h)
-
-pub members_close : (s : List ℕ) (n : ℕ) (c : Read Bytes) → members_at s n ≡ Ok c → (n < c.next) × (c.next < length s)
-members_close s n c h =
-    let t = then_ok (member_at s true n) (many (in_bracket s) (member_more s) (length s)) c h in
-    let m = member_moves s true n t.0 t.1 in
-    let r = many_closes s (length s) t.0 c m.1 (omega (arith, m.0, m.1)) t.2 in
-    (omega (arith, m.0, r.0), r.1)
-
-pub bracket_moves : (s : List ℕ) (n : ℕ) (c : Read Bytes) → bracket_at s n ≡ Ok c → (n < c.next) × (c.next ≤ length s)
-bracket_moves s n c h =
-    ⊎_elim (λ p. closed true (n + 1) (omega arith) p.1) (λ p. closed false n (omega arith) p.1) (by_cond (stands s n 94) _ _ _ h)
-  where
-    closed : (b : Bool) (m : ℕ) → n ≤ m → then (members_at s m) (closed_bracket b) ≡ Ok c → (n < c.next) × (c.next ≤ length s)
-    closed b m le h =
-        let t = then_ok (members_at s m) (closed_bracket b) c h in
-        let q : t.0.next + 1 ≡ c.next = chosen_next _ _ c t.2 in
-        let r = members_close s m t.0 t.1 in
-        (omega (arith, q, r.0), omega (arith, q, r.1))

@@ -1,18 +1,17 @@
 -- How the code's sets follow the grammar's.
-use Rattle.std.proofs.Common.{◌≡◌, ℕ, suc, ◌+◌, ◌-◌, ◌/◌, ◌<◌, ◌≤◌, Bool, true, false, cond, not, ◌&&◌, ◌||◌, eqb, ltb, List, length, Some, Ok, Err, codes, Option, Result, sym, ap, ◌∙◌, arith, le-ltb, ne_eqb}
+use Rattle.std.proofs.Common.{◌≡◌, ℕ, suc, ◌+◌, ◌-◌, ◌/◌, ◌<◌, ◌≤◌, Bool, true, false, cond, not, ◌&&◌, ◌||◌, eqb, ltb, List, length, Ok, Err, Result, sym, ap, ◌∙◌, arith, le-ltb}
 use mathlib.Core.Path.{fun_ext}
 use Rattle.std.proofs.lemmas.Bool.Decides.{nat_tests}
 use Rattle.bits.specs.Set.{has}
 use Rattle.classes.specs.declared.Class.{Class}
 use Rattle.classes.specs.declared.Class.TheVariants.{Alnum, Alpha, Blank, Cntrl, Digit, Graph, Lower, Print, Punct, Space, Upper, Xdigit}
-use Rattle.classes.specs.Posix.{members, class_named}
+use Rattle.classes.specs.Posix.{members}
 use Rattle.grammar.specs.declared.Read.{Read}
 use Rattle.grammar.specs.declared.Fault.{Fault}
 use Rattle.grammar.specs.declared.Refusal.TheVariants.{Misfit, OutOfBounds}
 use Rattle.grammar.specs.Outcome.{Out, refused, read, then, many, seen, Moves}
-use Rattle.grammar.specs.Bytes.{within, stands, part, name_length, literal}
-use Rattle.grammar.specs.Brackets.{element_at, reserved, range_ahead, range_end, ranged, from_element, closed_class, class_at, dash, member_at, in_bracket, joined, member_more, members_at, sided, closed_bracket, bracket_at}
-use Rattle.tokens.specs.Parts.{Part}
+use Rattle.grammar.specs.Bytes.{within, stands}
+use Rattle.grammar.specs.Brackets.{element_at, reserved, range_ahead, range_end, ranged, from_element, class_at, dash, member_at, in_bracket, joined, member_more, members_at, sided, closed_bracket, bracket_at}
 use Rattle.tokens.proofs.Follow.{Left, starts, turns_on, stops, fails}
 use Rattle.bits.specs.declared.Bits.{Bits}
 use Rattle.patterns.specs.Expression.{Bytes}
@@ -52,21 +51,6 @@ module _ (s : List ℕ) (n : ℕ) (e : Read ℕ) (ws : List ℕ) where
       ∙ ap (λ (b : Bool). cond b (refused OutOfBounds n) (read (within e.value high.value) high.next)) (sym (le-ltb high.value e.value le))
       ∙ ap (λ (o : Out (Read ℕ)). then o (ranged n e.value)) r
       ∙ ap (λ (b : Bool). cond b (then (range_end s (e.next + 1)) (ranged n e.value)) (read (λ b. eqb b e.value) e.next)) h
-
--- a class by its name, which is t
-module _ (s : List ℕ) (n : ℕ) (t : List ℕ) (p : Part s n (name_length s n) t) (k : Class) (is : Some k ≡ class_named t) where
-  class_is : then (literal (codes ":]") s (n + length t)) (read (members k)) ≡ class_at s n
-  class_is =
-      let z : eqb (name_length s n) 0 ≡ false = ne_eqb (name_length s n) 0 (λ q. omega (arith, p.some)) in
-      ap (λ (m : ℕ). closed_class (Some k) s n m) p.long
-      ∙ ap (λ (o : Option Class). closed_class o s n (name_length s n)) (is ∙ ap class_named p.is)
-      ∙ ap (λ (b : Bool). cond b (refused Misfit n) (closed_class (class_named (part s n (name_length s n))) s n (name_length s n))) (sym z)
-
-  pub class_fails : (f : Fault) → Err f ≡ literal (codes ":]") s (n + length t) → Err f ≡ class_at s n
-  class_fails f r = ap (λ (o : Out ℕ). then o (read (members k))) r ∙ class_is
-
-  pub class_closes : (m : ℕ) (ws : List ℕ) → Ok m ≡ literal (codes ":]") s (n + length t) → ((b : ℕ) → has ws b ≡ members k b) → read (has ws) m ≡ class_at s n
-  class_closes m ws r h = same_set ws (members k) m h ∙ ap (λ (o : Out ℕ). then o (read (members k))) r ∙ class_is
 
 pub member_element : (s : List ℕ) (first : Bool) (n : ℕ) (e : Read ℕ) → false ≡ stands s n 45 → false ≡ reserved s n → Ok e ≡ element_at s n → from_element s n e ≡ member_at s first n
 member_element s first n e a b r =

@@ -1,13 +1,8 @@
 -- A first step and then a `while`, as the grammar has them by `then` and `many`: `at` is the place of what was read so far, which every step moves on.
-use Rattle.std.proofs.Common.{◌≡◌, ℕ, ◌-◌, ◌<◌, Bool, true, false, Ok, Err, IsErrAnd, sym, ap, ◌∙◌, arith}
-use Rattle.std.proofs.lemmas.Result.{err_from_is_err_and}
+use Rattle.std.proofs.Common.{◌≡◌, ℕ, ◌-◌, ◌<◌, Bool, true, false, Ok, Err, sym, ap, arith}
 use Rattle.grammar.specs.declared.Fault.{Fault}
 use Rattle.grammar.specs.Outcome.{Out, then, many}
 use Rattle.tokens.proofs.Follow as follow
-
--- what a `?` hands on is the fault that it met
-pub thrown : {X : Type 0} (r : Out X) (e : Fault) → IsErrAnd r (λ d. d ≡ e) → r ≡ Err e
-thrown r e h = let p = err_from_is_err_and r h in p.1 ∙ ap Err p.2
 
 module _ {X : Type 0} (go : X → Bool) (step : X → Out X) (at : X → ℕ) (len : ℕ) (first : Out X) where
   abbrev pub whole : Out X

@@ -7,7 +7,6 @@ use Rattle.patterns.specs.Expression.{Then}
 use Rattle.grammar.specs.declared.Refusal.TheVariants.{Misfit}
 use Rattle.grammar.specs.Outcome.{Out, refused, read, then, many}
 use Rattle.grammar.specs.Bytes.{passes, stands}
-use Rattle.expressions.specs.Reads.{interval_over}
 use Rattle.grammar.specs.Expressions.{Parsed, parsed, joined_by, Parser, any_but_newline, only_byte, starts_atom, bytes_at, one_of, one_at, quote_at, quoted_byte, quoted_more, in_quotes, past_quote, group_by, closed_group, atom_by, piece_by, marked, repeated_more, branch_by, branch_goes_on, branch_more, alternation_by, bar_ahead, alternation_more, inside}
 
 pub bytes_any : (s : List ℕ) (n : ℕ) (ws : List ℕ) → n < length s → get_or s n 0 ≡ 46 → ((q : ℕ) → has ws q ≡ any_but_newline q) → read (has ws) (n + 1) ≡ bytes_at s n
@@ -66,9 +65,6 @@ closed_open d s n u p h e off =
 -- a branch goes on with a piece, where no interval stands
 pub extended_joins : (inner : Option Parser) (s : List ℕ) (p : Parsed) → false ≡ stands s p.at 123 → branch_more inner s p ≡ then (piece_by inner s p.at p.used) (joined_by Then p)
 extended_joins inner s p e = rw (sym e)
-
-pub extended_repeats : (inner : Option Parser) (s : List ℕ) (p : Parsed) → true ≡ stands s p.at 123 → branch_more inner s p ≡ interval_over s p
-extended_repeats inner s p e = rw (sym e)
 
 pub closed_shut : (s : List ℕ) (p : Parsed) → true ≡ stands s p.at 41 → closed_group s p ≡ parsed p.tree (p.at + 1) p.used
 closed_shut s p on = rw (sym on)

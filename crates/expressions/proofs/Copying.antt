@@ -14,25 +14,10 @@ use Rattle.positions.specs.Laid.{Laid, made}
 use Rattle.positions.proofs.Sets.{between_below, between_past, copiable_parts}
 use Rattle.positions.proofs.Lays.{laid_then, laid_repeats, laid_copied}
 use Rattle.grammar.specs.declared.Interval.{Interval}
-use Rattle.grammar.specs.declared.Interval.TheVariants.{Between, AtLeast}
 use Rattle.grammar.specs.Expressions.{copy_of, side_by_side, extra}
+use Rattle.grammar.proofs.Sizes.{copy_size, side_size}
 use Rattle.expressions.specs.Frames.{Outside, Marked, Forms, Placed, Copies}
 use Rattle.expressions.proofs.Frames.{outside_refl, outside_trans, outside_wider, laid_outside, outside_linked}
-
-size_cond : (b : Bool) (e f : Expression) → size f ≡ size e → size (cond b e f) ≡ size e
-size_cond true e f h = refl
-size_cond false e f h = h
-
-pub size_copy : (i : Interval) (k : ℕ) (e : Expression) → size (copy_of i k e) ≡ size e
-size_copy (Between m n) k e = size_cond (ltb k m) e _ refl
-size_copy (AtLeast m) k e = size_cond (ltb k m) e _ refl
-
-pub size_side : (i : Interval) (e : Expression) (j k : ℕ) → size (side_by_side i e k j) ≡ suc j * size e
-size_side i e zero k = size_copy i k e ∙ omega (arith, suc-mul 0 (size e), zero-mul (size e))
-size_side i e (suc j) k =
-    let p = size_copy i k e in
-    let q = size_side i e j (suc k) in
-    omega (arith, p, q, suc-mul (suc j) (size e))
 
 pub size_made : (r : Repeat) (e : Expression) → size (made r e) ≡ size e
 size_made Many e = refl
@@ -42,7 +27,7 @@ size_made Maybe e = refl
 pub placed_marked : (i : Interval) (k : ℕ) (r : Repeat) (w w' : Work) (x f : Fragment) → Marked i k r → 1024 ≤ length w → Repeats r w w' x f → Forms i k w w' x f
 placed_marked i k r w w' x f h room s e a l =
     let o : Outside a (a + size e) w w' = outside_linked e a w x l w' (goes_round r && roomy w) x.first.words (λ n q. s.memory n q ∙ regroup (member w n q) (goes_round r) (roomy w) _ _) in
-    let b : a + size e ≤ a + size (copy_of i k e) = omega (arith, size_copy i k e) in
+    let b : a + size e ≤ a + size (copy_of i k e) = omega (arith, copy_size i k e) in
     record {
       laid = subst (λ (g : Expression). Laid w' g a f) (sym (h e)) (laid_repeats l room s);
       outside = outside_wider _ _ _ _ w w' (omega arith) b o;
@@ -152,7 +137,7 @@ module _ (i : Interval) (e : Expression) (base last : ℕ) (x : Fragment) (w₀ 
       let n = size e in
       let m = k * n in
       let step : suc k * n ≡ m + n = suc-mul k n in
-      let c = size_copy i k e in
+      let c = copy_size i k e in
       let kl : suc k ≤ last = t.below in
       let rest : last - k ≡ suc (last - suc k) = omega arith in
       let at : base + suc k * n ≡ base + m + size (copy_of i k e) = omega (arith, step, c) in
@@ -188,7 +173,7 @@ again i e base last n x w₀ w w₁ w₂ w₃ k m all copy next more km se bound
     let fits : suc m * size e ≤ suc last * n = subst (λ (h : ℕ). suc m * h ≤ suc last * n) (sym se) (mul-le-mul_right n (omega (arith, t'.below))) in
     let c : Placed e (base + m * size e) w w₁ copy = placed_copied e base m w w₁ x copy (t'.original (omega arith)) room (omega arith) s' in
     let g : Placed (copy_of i m e) (base + m * size e) w₁ w₂ next = f e (base + m * size e) c.laid in
-    let o : Outside (base + m * size e) (base + m * size e + size e) w₁ w₂ = outside_wider _ _ _ _ w₁ w₂ (omega arith) (omega (arith, size_copy i m e)) g.outside in
+    let o : Outside (base + m * size e) (base + m * size e + size e) w₁ w₂ = outside_wider _ _ _ _ w₁ w₂ (omega arith) (omega (arith, copy_size i m e)) g.outside in
     turn i e base last x w₀ w w₁ w₂ w₃ m all copy next more t' room₂ c.outside c.laid o g.laid j
 
 -- the last copy, before the turns; and all copies, after them
@@ -202,7 +187,7 @@ all_copies i base last n k x w w₁ w₂ w₃ copy start all le kz room s f turn
     let c : Placed e (base + last * size e) w w₁ copy = placed_copied e base last w w₁ x copy l room b s' in
     let g : Placed (copy_of i last e) (base + last * size e) w₁ w₂ start = f e (base + last * size e) c.laid in
     let o : Outside (base + last * size e) (base + last * size e + size e) w w₂ =
-    outside_trans _ _ w w₁ w₂ c.outside (outside_wider _ _ _ _ w₁ w₂ (omega arith) (omega (arith, size_copy i last e)) g.outside) in
+    outside_trans _ _ w w₁ w₂ c.outside (outside_wider _ _ _ _ w₁ w₂ (omega arith) (omega (arith, copy_size i last e)) g.outside) in
     let z : last - last ≡ 0 = omega arith in
     let first : Turn i e base last x w₂ w₂ last start = record {
       below = omega arith;
@@ -214,7 +199,7 @@ all_copies i base last n k x w w₁ w₂ w₃ copy start all le kz room s f turn
     let at : base + 0 * size e ≡ base = omega (arith, zero-mul (size e)) in
     let whole : Laid w₃ (side_by_side i e 0 last) base all =
     subst (λ (a : ℕ). Laid w₃ (side_by_side i e 0 last) a all) at (subst (λ (j : ℕ). Laid w₃ (side_by_side i e 0 j) (base + 0 * size e) all) (omega arith) done.copies) in
-    let size_is : size (side_by_side i e 0 last) ≡ suc last * size e = size_side i e last 0 in
+    let size_is : size (side_by_side i e 0 last) ≡ suc last * size e = omega (arith, side_size i e last 0, suc-mul last (size e)) in
     let wide : Outside base (base + suc last * size e) w w₂ = outside_wider _ _ _ _ w w₂ (omega arith) (omega (arith, suc-mul last (size e))) o in
     let all-out : Outside base (base + size (side_by_side i e 0 last)) w w₃ =
     subst (λ (m : ℕ). Outside base (base + m) w w₃) (sym size_is) (outside_trans _ _ w w₂ w₃ wide done.outside) in

@@ -1,6 +1,6 @@
 -- The loops of the reader of expressions, which each grow a tree by one step at a time.
-use Rattle.std.proofs.Common.{◌≡◌, ℕ, suc, ◌+◌, ◌-◌, ◌*◌, ◌<◌, ◌≤◌, Bool, true, false, cond, leb, List, length, get_or, Ok, Err, Result, sym, refl, ap, ◌∙◌, subst, suc-mul, arith}
-use Rattle.std.proofs.lemmas.Bool.{le-leb, lt-leb}
+use Rattle.std.proofs.Common.{◌≡◌, IsErrAnd, ℕ, suc, ◌+◌, ◌-◌, ◌*◌, ◌<◌, ◌≤◌, Bool, true, false, cond, leb, List, length, get_or, Ok, Err, Result, sym, refl, ap, ◌∙◌, subst, suc-mul, arith}
+use Rattle.std.proofs.lemmas.Bool.{le-leb}
 use Rattle.patterns.specs.Expression.{Expression, Then, Either}
 use Rattle.patterns.specs.Positions.{size}
 use Rattle.positions.specs.declared.Fragment.{Fragment}
@@ -14,13 +14,14 @@ use Rattle.grammar.specs.declared.Read.{Read}
 use Rattle.grammar.specs.declared.Refusal.TheVariants.{LimitPassed}
 use Rattle.grammar.specs.Outcome.{Out, refused, then, many}
 use Rattle.grammar.specs.Expressions.{Parsed, parsed, joined_by, repeated_by, repeated_more, bounds_at, extra, repeated, repeated_over}
-use Rattle.tokens.proofs.Follow.{Left, starts, stops, turns_on, fails}
+use Rattle.grammar.proofs.Sizes.{side_size}
+use Rattle.tokens.proofs.Follow.{thrown, Left, starts, stops, turns_on, fails}
 use Rattle.expressions.specs.declared.Parsed as code
 use Rattle.expressions.specs.Lays.{parsed_as, Lays, Gives, Holds, Steps}
 use Rattle.expressions.specs.Reads.{JoinsOn, MarksOn, Counted, interval_over}
 use Rattle.expressions.specs.Frames.{Placed, Copies}
 use Rattle.expressions.proofs.Frames.{kept_outside}
-use Rattle.expressions.proofs.Copying.{size_pos, size_made, size_side}
+use Rattle.expressions.proofs.Copying.{size_pos, size_made}
 
 abbrev pub Code : Type 0
 Code = code.Parsed
@@ -158,30 +159,18 @@ interval_steps s base w w' all b x f e x-is low fits c t h =
           ap (λ (o : Out (Read Interval)). then o (repeated_over (parsed_as all t))) (sym e)
           ∙ ap (λ (y : Bool). cond y (parsed (repeated i t) b.next (all.used + extra i * size t)) (refused LimitPassed all.at)) test
           ∙ ap (λ (n : ℕ). parsed (repeated i t) b.next n) (sym used-is);
-      counts = used-is ∙ omega (arith, suc-mul (extra i) (size t), size_side i t (extra i) 0, h.counts);
+      counts = used-is ∙ omega (arith, side_size i t (extra i) 0, h.counts);
       laid = g.laid;
       kept = kept_outside base _ w w' (omega (arith, g.laid.within)) g.outside;
     }
-
--- an interval that passes the limit
-pub interval_full : (s : List ℕ) (base : ℕ) (w w' : Work) (all : Code) (b : Read Interval) (x : ℕ) → Ok b ≡ bounds_at s (all.at + 1) → x ≡ extra b.value
-    → 512 < all.used + x * (all.used - base) → Steps (interval_over s) base w w' all (refused LimitPassed all.at)
-interval_full s base w w' all b x e x-is past t h =
-    let i = b.value in
-    let n-is : all.used - base ≡ size t = omega (arith, h.counts) in
-    let used-is : all.used + x * (all.used - base) ≡ all.used + extra i * size t =
-    ap (λ (n : ℕ). all.used + n * (all.used - base)) x-is ∙ ap (λ (n : ℕ). all.used + extra i * n) n-is in
-    let test : leb (all.used + extra i * size t) 512 ≡ false = lt-leb _ _ (subst (λ (n : ℕ). 512 < n) used-is past) in
-    ap (λ (o : Out (Read Interval)). then o (repeated_over (parsed_as all t))) (sym e)
-    ∙ ap (λ (y : Bool). cond y (parsed (repeated i t) b.next (all.used + extra i * size t)) (refused LimitPassed all.at)) test
 
 pub gives_by : {o o' : Out Parsed} (base : ℕ) (w w' : Work) (r : Result Code Fault) → o ≡ o' → Gives o' base w w' r → Gives o base w w' r
 gives_by base w w' (Ok r) e l = lays_by e l
 gives_by base w w' (Err f) e l = e ∙ l
 
 -- the exit of a `?`, whose fault is f
-pub gives_fault : {o : Out Parsed} {r : Result Code Fault} {f : Fault} (base : ℕ) (w w' : Work) → (y : Fault) × (r ≡ Err y) × (y ≡ f) → o ≡ Err f → Gives o base w w' r
-gives_fault {o = o} base w w' p e = subst (λ (r : Result Code Fault). Gives o base w w' r) (sym (p.1 ∙ ap (λ (y : Fault). Err y) p.2)) e
+pub gives_fault : {o : Out Parsed} {f : Fault} (base : ℕ) (w w' : Work) (r : Result Code Fault) → IsErrAnd r (λ d. d ≡ f) → o ≡ Err f → Gives o base w w' r
+gives_fault {o = o} base w w' r h e = subst (λ (r : Result Code Fault). Gives o base w w' r) (sym (thrown r _ h)) e
 
 -- a fault is a fault of all that would go on behind it
 pub then_fault : {X Y : Type 0} {o : Out Y} {first : Out X} {f : Fault} (more : X → Out Y) → o ≡ then first more → first ≡ Err f → o ≡ Err f

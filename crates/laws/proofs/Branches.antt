@@ -6,27 +6,20 @@ use Rattle.grammar.specs.declared.Fault.{Fault}
 use Rattle.grammar.specs.Outcome.{Out, then, many}
 use Rattle.grammar.specs.Bytes.{passes, stands}
 use Rattle.grammar.specs.Expressions.{Parsed, Parser, starts_atom, atom_by, marked, repeated_more, piece_by, bounds_at, extra, repeated, repeated_over, branch_goes_on, branch_more, branch_by, inside}
-use Rattle.tokens.proofs.Follow.{Left, starts, turns_on, stops}
+use Rattle.tokens.proofs.Follow.{no_ok, then_ok, Left, starts, turns_on, stops}
 use Rattle.laws.specs.Branches.{Reads, first, further, BranchesEnd, Covers, IntervalCovers, IntervalRead}
 use Rattle.laws.proofs.Intervals.{interval_strings}
 use Rattle.laws.proofs.Ends.{well_at, passing, standing}
 use Rattle.laws.proofs.Growth.{Grown, Further, Inner, piece_ends, branch_more_ends, inside_ends, Ordered, bounds_ends}
 
 -- a piece begins in the text
-never : {X : Type 0} (f : Fault) (x : X) (A : Type 0) → ◌≡◌ {A = Out X} (Err f) (Ok x) → A
-never f x A e = let z : ◌≡◌ {A = ℕ} 0 1 = cc in absurd (omega arith)
-
-then_ok : {X Y : Type 0} (o : Out X) (f : X → Out Y) (y : Y) → then o f ≡ Ok y → (x : X) × (o ≡ Ok x) × (f x ≡ Ok y)
-then_ok (Ok x) f y e = (x, refl, e)
-then_ok (Err g) f y e = never g y _ e
-
 module _ (s : List ℕ) (n : ℕ) (p : Parsed) where
   begins : (x y z : Bool) (q r : Out Parsed) (g h : Out Parsed) → (x ≡ true → n < length s) → (y ≡ true → n < length s) → (z ≡ true → n < length s) → (f : Fault) → g ≡ Err f →
       cond x q (cond y r (cond z h g)) ≡ Ok p → n < length s
   begins true y z q r g h a b c f w e = a refl
   begins false true z q r g h a b c f w e = b refl
   begins false false true q r g h a b c f w e = c refl
-  begins false false false q r g h a b c f w e = never f p _ (sym w ∙ e)
+  begins false false false q r g h a b c f w e = absurd (no_ok f p (sym w ∙ e))
 
 atom_begins : (inner : Option Parser) (s : List ℕ) (n u : ℕ) (p : Parsed) → atom_by inner s n u ≡ Ok p → n < length s
 unfolding atom_by
@@ -55,7 +48,7 @@ module _ (inner : Option Parser) (s : List ℕ) (i : Inner s inner) (n u : ℕ) 
       again true t (Ok x) m e more =
           let f : Further s n u p x = well_at (branch_more inner s p) x (branch_more_ends s inner i n u p (reads_grown p r)) m in
           more x q (further p r t m) (omega (arith, f.behind)) e
-      again true t (Err f) m e more = never f q _ e
+      again true t (Err f) m e more = absurd (no_ok f q e)
       again false t o m e more =
           let same : p ≡ q = cc in
           let P : Parsed → Type 0 = λ x. Reads inner s n u x × (branch_goes_on s x ≡ false) in subst P same (r, t)
@@ -107,7 +100,7 @@ interval_covers d s n u p b r t e room =
 -- a test that must have held
 held : (b : Bool) (f : Fault) (x y : Parsed) → cond b (Ok x) (Err f) ≡ Ok y → b ≡ true
 held true f x y e = refl
-held false f x y e = never f y _ e
+held false f x y e = absurd (no_ok f y e)
 
 pub interval_read : IntervalRead
 interval_read d s n u p q r t e =

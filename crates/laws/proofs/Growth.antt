@@ -1,15 +1,15 @@
 -- Expressions: each reading moves on within the text, counts the positions of its tree, and is refused within the text.
-use Rattle.std.proofs.Common.{◌≡◌, ℕ, zero, suc, ◌+◌, ◌*◌, ◌<◌, ◌≤◌, Bool, true, false, cond, ◌&&◌, eqb, ltb, leb, List, length, get_or, Some, None, Option, refl, suc-mul, zero-mul, arith}
+use Rattle.std.proofs.Common.{◌≡◌, ℕ, zero, suc, ◌+◌, ◌*◌, ◌<◌, ◌≤◌, Bool, true, false, cond, ◌&&◌, eqb, ltb, leb, List, length, get_or, Some, None, Option, refl, arith}
 use Rattle.std.proofs.lemmas.Bool.{and_parts, ltb-true, leb-true, not-false}
 use Rattle.patterns.specs.Expression.{Bytes, Expression, Then, Either}
 use Rattle.patterns.specs.Expression as expression
 use Rattle.patterns.specs.Positions.{size}
 use Rattle.grammar.specs.declared.Interval.{Interval}
-use Rattle.grammar.specs.declared.Interval.TheVariants.{Between, AtLeast}
 use Rattle.grammar.specs.declared.Read.{Read}
 use Rattle.grammar.specs.Outcome.{Out, many}
 use Rattle.grammar.specs.Bytes.{passes, stands, digit, digits, number}
-use Rattle.grammar.specs.Expressions.{Parsed, Parser, starts_atom, one_of, only_byte, bytes_at, one_at, quoted_byte, in_quotes, joined_by, quoted_more, past_quote, quote_at, closed_group, group_by, atom_by, repeat_mark, repeated_by, marked, repeated_more, piece_by, up_to, behind_low, bounds_at, copy_of, side_by_side, extra, repeated_over, branch_goes_on, branch_more, branch_by, bar_ahead, alternation_more, alternation_by, inside}
+use Rattle.grammar.specs.Expressions.{Parsed, Parser, starts_atom, one_of, only_byte, bytes_at, one_at, quoted_byte, in_quotes, joined_by, quoted_more, past_quote, quote_at, closed_group, group_by, atom_by, repeat_mark, repeated_by, marked, repeated_more, piece_by, up_to, behind_low, bounds_at, extra, repeated_over, branch_goes_on, branch_more, branch_by, bar_ahead, alternation_more, alternation_by, inside}
+use Rattle.grammar.proofs.Sizes.{side_size}
 use Rattle.tokens.proofs.Items.{span_within}
 use Rattle.laws.specs.Intervals.{Sound}
 use Rattle.laws.proofs.Ends.{Ends, well, ill, map_ends, then_ends, cond_ends, many_ends, Past, passing, standing}
@@ -26,23 +26,6 @@ pub record Grown (s : List ℕ) (n u : ℕ) (p : Parsed) : Type 0 where
 pub record Further (s : List ℕ) (n u : ℕ) (p q : Parsed) : Type 0 where
   pub grown : Grown s n u q
   pub behind : p.at < q.at
-
--- a copy is as large as what it copies
-copy_size : (i : Interval) (k : ℕ) (e : Expression) → size (copy_of i k e) ≡ size e
-copy_size (Between m n) k e = same (ltb k m)
-  where
-    same : (b : Bool) → size (cond b e (expression.Maybe e)) ≡ size e
-    same true = refl
-    same false = refl
-copy_size (AtLeast m) k e = same (ltb k m)
-  where
-    same : (b : Bool) → size (cond b e (expression.Many e)) ≡ size e
-    same true = refl
-    same false = refl
-
-side_size : (i : Interval) (e : Expression) (j k : ℕ) → size (side_by_side i e k j) ≡ size e + j * size e
-side_size i e zero k = omega (arith, copy_size i k e, zero-mul (size e))
-side_size i e (suc j) k = omega (arith, copy_size i k e, suc-mul j (size e), side_size i e j (suc k))
 
 marked_size : (b : ℕ) (e : Expression) → size (repeated_by b e) ≡ size e
 marked_size b e = same (eqb b 42) (eqb b 43)

@@ -9,6 +9,7 @@ use Rattle.grammar.specs.Lines.{Line, line_end, next_line, prepend, lines_from, 
 use Rattle.grammar.specs.Expressions.{Parsed, alternation_at, inside}
 use Rattle.grammar.specs.Conditions.{Conditions, only_initial}
 use Rattle.grammar.specs.File.{RuleText, trailing_size, rule_size, Pattern, trailed_by, trailing_at, pattern_at, RuleRead, rule_of, behind_pattern, behind_active, starts_rule, rule_line, FirstSection, first_section, RuleFile, second_section, rule_file_of, all_positions}
+use Rattle.grammar.proofs.Sizes.{positions_more}
 use Rattle.tokens.proofs.Items.{span_within, line_within}
 use Rattle.laws.specs.Limits.{PlacesWithin, Each, RuleWithin, FileWithin, LimitsKept}
 use Rattle.laws.proofs.Ends.{Ends, well, ill, well_at, ill_is, map_ends, then_ends, cond_ends, standing}
@@ -95,10 +96,6 @@ lines_lie file = from_lie (length file) file 0
 wider : {X : Type 0} {P : X → Type 0} {m n : ℕ} {o : Out X} → m ≤ n → Ends P m o → Ends P n o
 wider le (well h) = well h
 wider le (ill h) = ill (omega arith)
-
-positions_more : (qs : List RuleText) (q : RuleText) → all_positions (qs ++ (q ∷ [])) ≡ all_positions qs + rule_size q
-positions_more [] q = omega arith
-positions_more (p ∷ ps) q = omega (arith, positions_more ps q)
 
 module _ (file : List ℕ) where
   text_length : (l : Line) → Lies file l → length (text_of file l) ≡ l.end

@@ -1,18 +1,18 @@
 -- What each call lays down, and that it leaves what was laid down before.
-use Rattle.std.proofs.Common.{◌≡◌, ℕ, ◌+◌, ◌-◌, ◌<◌, ◌≤◌, Bool, true, false, ◌&&◌, ◌||◌, eqb, ltb, leb, List, length, sym, refl, ◌∙◌, inl, inr, arith}
-use mathlib.Core.Bool.{or-false, and-true, and-false, or_assoc}
-use Rattle.std.proofs.lemmas.Bool.{cases_lt, le-leb, lt-ltb, le-ltb, eq-eqb, ne_eqb, and_from}
+use Rattle.std.proofs.Common.{◌≡◌, ℕ, ◌+◌, ◌-◌, ◌<◌, ◌≤◌, Bool, true, false, ◌&&◌, ◌||◌, ltb, leb, length, sym, refl, ◌∙◌, inl, inr, arith}
+use mathlib.Core.Bool.{or-false, or_assoc}
+use Rattle.std.proofs.lemmas.Bool.{cases_lt, le-leb, lt-ltb, le-ltb, and_from}
 use Rattle.bits.specs.Set.{has}
-use Rattle.patterns.specs.Expression.{Expression, Takes, Then, Either}
+use Rattle.patterns.specs.Expression.{Expression, Then, Either}
 use Rattle.patterns.specs.Positions.{size, takes, first, last, follows}
 use Rattle.patterns.proofs.Ranges.{takes_out, first_out, last_out, follows_out, follows_none}
 use Rattle.patterns.proofs.Shifts.{takes_shift, first_shift, last_shift, follows_shift}
 use Rattle.positions.specs.declared.Fragment.{Fragment}
 use Rattle.positions.specs.declared.Repeat.{Repeat}
 use Rattle.positions.specs.declared.Repeat.TheVariants.{Many, Some, Maybe}
-use Rattle.positions.specs.Memory.{Work, member, roomy, between, copiable, goes_round, Leaf, Linked, Sequence, Choice, Repeats, Copied}
+use Rattle.positions.specs.Memory.{Work, member, roomy, copiable, goes_round, Linked, Sequence, Choice, Repeats, Copied}
 use Rattle.positions.specs.Laid.{Laid, Kept, made}
-use Rattle.positions.proofs.Sets.{between_in, between_below, between_past}
+use Rattle.positions.proofs.Sets.{between_in, between_past}
 use Rattle.positions.proofs.Links.{room, linked_order, linked_low, kept_linked}
 
 pub kept_refl : {a : ℕ} {w : Work} → Kept a w w
@@ -45,44 +45,6 @@ laid_kept l s = record {
 -- where the ends of what is laid down from a on are not
 no_ends : {w : Work} {e : Expression} {a : ℕ} {x : Fragment} → Laid w e a x → (p : ℕ) → p < a → has x.last.words p ≡ false
 no_ends {e = e} {a = a} l p h = l.ends p ∙ last_out e a p (inl h)
-
--- a position
-
-pub laid_leaf : {w w' : Work} {p : ℕ} {bs : List ℕ} {f : Fragment} → Leaf w w' p bs f → p < 512 → 1024 ≤ length w → (g : ℕ → Bool) → ((b : ℕ) → b < 256 → has bs b ≡ g b) → Laid w' (Takes g) p f
-laid_leaf {w = w} {p = p} {bs = bs} l h big g same =
-    let low : ltb p 512 ≡ true = lt-ltb p 512 h in
-    let one : (q : ℕ) → (eqb q p && ltb p 512) ≡ eqb q p = λ q. rw (low, and-true) refl in
-    record {
-      within = omega arith;
-      empty = l.nullable;
-      begins = λ q. l.first q ∙ one q;
-      ends = λ q. l.last q ∙ one q;
-      bytes = λ k b s t c.
-          let here : eqb k p ≡ true = eq-eqb k p (omega arith) in
-          rw (l.memory k b, room w big, low, here) (same b c);
-      order = λ k q s t.
-          let apart : eqb (512 + k) p ≡ false = ne_eqb (512 + k) p (λ e. omega arith) in
-          let here : eqb (512 + k) (512 + p) ≡ true = eq-eqb (512 + k) (512 + p) (omega arith) in
-          rw (l.memory (512 + k) q, room w big, low, apart, here) refl;
-    }
-
--- a leaf writes no set but those of its position
-leaf_apart : {w w' : Work} {p : ℕ} {bs : List ℕ} {f : Fragment} → Leaf w w' p bs f → (k q : ℕ) → (p < 512 → k ≡ p → ⊥) → (p < 512 → k ≡ 512 + p → ⊥) → member w' k q ≡ member w k q
-leaf_apart {w = w} {p = p} l k q n m =
-    elim (cases_lt p 512) [
-      | inl h ↦
-          let low = ne_eqb k p (n h) in
-          let high = ne_eqb k (512 + p) (m h) in
-          rw (l.memory k q, low, high, and-false) refl
-      | inr past ↦ let off = le-ltb p 512 past in rw (l.memory k q, off, and-false) refl
-    ]
-
-pub kept_leaf : {w w' : Work} {p : ℕ} {bs : List ℕ} {f : Fragment} → Leaf w w' p bs f → Kept p w w'
-kept_leaf l = record {
-  bytes = λ k q h. leaf_apart l k q (λ s e. omega arith) (λ s e. omega arith);
-  order = λ k q h. leaf_apart l (512 + k) q (λ s e. omega arith) (λ s e. omega arith);
-  others = λ k q h. leaf_apart l k q (λ s e. omega arith) (λ s e. omega arith);
-}
 
 -- x, and then y
 
@@ -202,17 +164,6 @@ module _ {w w' : Work} {a n by : ℕ} {x f : Fragment} (big : 1024 ≤ length w)
   fits : copiable w a n by ≡ true
   fits = and_from (roomy w) (leb n by && leb (a + n + by) 512) (room w big) (and_from (leb n by) (leb (a + n + by) 512) (le-leb n by low) (le-leb (a + n + by) 512 top))
 
-  -- sets of no copy stay
-  copy_apart : (k q : ℕ) → between (a + by) (a + n + by) k ≡ false → between (512 + a + by) (512 + a + n + by) k ≡ false → member w' k q ≡ member w k q
-  copy_apart k q one two = rw (s.memory k q, fits, one, two) refl
-
-  copy_kept : Kept (a + by) w w'
-  copy_kept = record {
-    bytes = λ p q h. copy_apart p q (between_below (a + by) (a + n + by) p h) (between_below (512 + a + by) (512 + a + n + by) p (omega arith));
-    order = λ p q h. copy_apart (512 + p) q (between_past (a + by) (a + n + by) (512 + p) (omega arith)) (between_below (512 + a + by) (512 + a + n + by) (512 + p) (omega arith));
-    others = λ k q h. copy_apart k q (between_past (a + by) (a + n + by) k (omega arith)) (between_past (512 + a + by) (512 + a + n + by) k (omega arith));
-  }
-
   copy_bytes : (p q : ℕ) → a + by ≤ p → p < a + by + n → member w' p q ≡ member w (p - by) q
   copy_bytes p q h t =
       let here = between_in (a + by) (a + n + by) p h (omega arith) in
@@ -232,9 +183,6 @@ below x q out =
       | inl less ↦ rw (lt-ltb q 512 less) refl
       | inr past ↦ rw (le-ltb q 512 past) (sym (out past))
     ]
-
-pub kept_copied : {w w' : Work} {e : Expression} {a by : ℕ} {x f : Fragment} → Laid w e a x → 1024 ≤ length w → size e ≤ by → a + size e + by ≤ 512 → Copied w w' a (size e) by x f → Kept (a + by) w w'
-kept_copied l big low top s = copy_kept big low top s
 
 pub laid_copied : {w w' : Work} {e : Expression} {a by : ℕ} {x f : Fragment} → Laid w e a x → 1024 ≤ length w → size e ≤ by → a + size e + by ≤ 512 → Copied w w' a (size e) by x f → Laid w' e (a + by) f
 laid_copied {w = w} {e = e} {a = a} {by = by} l big low top s =

@@ -8,6 +8,7 @@ use Rattle.grammar.specs.Lines.{Line, lines}
 use Rattle.grammar.specs.Conditions.{Conditions, only_initial}
 use Rattle.grammar.specs.File as file
 use Rattle.grammar.specs.File.{RuleText, first_section, second_section, rule_line, rule_file, all_positions, sections}
+use Rattle.grammar.proofs.Sizes.{positions_more}
 use Rattle.conditions.specs.Known.{known}
 use Rattle.conditions.specs.declared.Conditions as code
 use Rattle.loaded.specs.declared.Loaded.{Loaded}
@@ -20,7 +21,7 @@ use Rattle.rulefile.specs.Loaded.{RulesHold, trails_of}
 use Rattle.rulefile.specs.Lines.{left, IsLine, Gives, divides_in}
 use Rattle.rulefile.specs.Sections.{FirstRead, SoFar, Added, Gone, FileRead}
 use Rattle.rulefile.proofs.Left.{divides_is}
-use Rattle.rulefile.proofs.Rules.{laid_more, size_more, holds_more, places}
+use Rattle.rulefile.proofs.Rules.{laid_more, holds_more, places}
 
 -- rules that are read of the lines of s, with those of u left
 pub record Adding (s u : TextLines) (c : Conditions) (w : Work) (l₀ l : Loaded) (p : Progress) : Type 0 where
@@ -63,7 +64,7 @@ more qs w w' l₀ l l' p p' s c at f a =
     record {
       count = ap (λ (x : Progress). x.rules) a.next ∙ omega (arith, i, len);
       few = omega (arith, a.line.few, i, len);
-      used = ap (λ (x : Progress). x.positions) a.next ∙ a.line.counts ∙ omega (arith, f.used, size_more qs q);
+      used = ap (λ (x : Progress). x.positions) a.next ∙ a.line.counts ∙ omega (arith, f.used, positions_more qs q);
       laid = laid_more w w' 0 0 p.positions p.rules qs q (omega (arith, f.used)) (omega (arith, i)) f.laid a.line.kept a.line.laid;
       holds = λ e. subst (λ (rs : List Rule). RulesHold rs (qs ++ (q ∷ []))) (sym a.rules)
           (holds_more l.rules qs p.rules a.read.rule q i (f.holds e) (omega (arith, places l (f.trails e), a.line.few)) a.line.holds);

@@ -88,10 +88,6 @@ laid_more w w' i a b j [] q b-is j-is l k p =
 laid_more w w' i a b j (h ∷ qs) q b-is j-is l k p =
     (pattern_kept w w' a i b j h l.0 k (omega arith) (omega arith), laid_more w w' (suc i) (a + rule_size h) b j qs q (omega arith) (omega arith) l.1 k p)
 
-pub size_more : (qs : List RuleText) (q : RuleText) → all_positions (qs ++ (q ∷ [])) ≡ all_positions qs + rule_size q
-size_more [] q = omega arith
-size_more (h ∷ qs) q = omega (arith, size_more qs q)
-
 -- in the loaded memory
 pub holds_more : (rs : List Rule) (qs : List RuleText) (j : ℕ) (r : Rule) (q : RuleText) → j ≡ length qs → RulesHold rs qs → j < length rs → RuleHolds r q → RulesHold (set rs j r) (qs ++ (q ∷ []))
 holds_more [] qs j r q e h lt k = absurd (omega arith)

@@ -1,7 +1,7 @@
 use Rattle.std.proofs.Common.{ap, ◌∙◌}
 use Rattle.conditions.specs.Known.{known}
 use Rattle.actions.specs.Steps.{view, does}
-use Rattle.conditions.proofs.Loop.{thrown}
+use Rattle.tokens.proofs.Follow.{thrown}
 use Rattle.actions.proofs.Read.{reads_first, reads_on, reads_refuses, reads_fails, reads_ends}
 use Rattle.actions.proofs.action.Goals as goal
 

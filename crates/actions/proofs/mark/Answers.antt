@@ -1,6 +1,6 @@
 use Rattle.std.proofs.Common.{Err, ◌∙◌}
 use Rattle.grammar.specs.declared.Step.TheVariants.{Mark}
-use Rattle.conditions.proofs.Loop.{thrown}
+use Rattle.tokens.proofs.Follow.{thrown}
 use Rattle.actions.proofs.Parts.{mark_from}
 use Rattle.actions.proofs.mark.Goals as goal
 

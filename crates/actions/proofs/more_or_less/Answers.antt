@@ -1,6 +1,6 @@
 use Rattle.std.proofs.Common.{Err, ◌∙◌}
 use Rattle.grammar.specs.declared.Step.TheVariants.{Less}
-use Rattle.conditions.proofs.Loop.{thrown}
+use Rattle.tokens.proofs.Follow.{thrown}
 use Rattle.actions.proofs.Parts.{less_from}
 use Rattle.actions.proofs.more_or_less.Goals as goal
 

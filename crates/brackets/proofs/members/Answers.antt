@@ -1,5 +1,5 @@
 use Rattle.std.proofs.Common.{arith}
-use Rattle.std.proofs.lemmas.Result.{err_from_is_err_and}
+use Rattle.tokens.proofs.Follow.{thrown}
 use Rattle.tokens.proofs.Items.{stands_below}
 use Rattle.grammar.specs.Outcome.{seen}
 use Rattle.brackets.specs.Sets.{set}
@@ -13,8 +13,7 @@ loop-all-init c =
 
 pub returns-in_err-more : goal.returns-in_err-more
 returns-in_err-more c =
-    let p = err_from_is_err_and c.from_residual-in_err-more.result c.from_residual-in_err-more.ensures.1 in
-    rw (p.1, p.2)
+    rw (thrown _ _ c.from_residual-in_err-more.ensures.1)
     record { is = members_fail c.args.s.now c.args.n (seen set c.loop-all.all) _ c.loop-all.invariant.2 c.loop-all-test.ensures c.in_err-more.ensures.is; closes = tt }
 
 pub loop-all-preserved : goal.loop-all-preserved

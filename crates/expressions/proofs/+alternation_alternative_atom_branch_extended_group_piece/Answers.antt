@@ -1,5 +1,4 @@
 use Rattle.std.proofs.Common.{length, Err, sym, refl, ap, ◌∙◌, arith}
-use Rattle.std.proofs.lemmas.Result.{err_from_is_err_and}
 use Rattle.grammar.specs.Outcome.{many}
 use Rattle.grammar.specs.Expressions.{inside, marked, repeated_more, branch_goes_on, branch_more, bar_ahead, alternation_more, closed_group}
 use Rattle.grammar.specs.declared.Fault.{Fault}
@@ -14,7 +13,7 @@ pub alternation-returns-in_err-all-clause-gives : goal.alternation-returns-in_er
 alternation-returns-in_err-all-clause-gives t c =
     let s = c.args.s.now in
     let i = inside c.args.depth s in
-    gives_fault _ _ _ (err_from_is_err_and c.from_residual.result c.from_residual.ensures.1) (then_fault (many (bar_ahead s) (alternation_more i s) (length s)) (alternation_is i s c.args.at c.args.used) c.in_err-all.ensures.gives)
+    gives_fault _ _ _ _ c.from_residual.ensures.1 (then_fault (many (bar_ahead s) (alternation_more i s) (length s)) (alternation_is i s c.args.at c.args.used) c.in_err-all.ensures.gives)
 
 pub alternation-loop-work-init : goal.alternation-loop-work-init
 alternation-loop-work-init t c =
@@ -24,7 +23,7 @@ alternation-loop-work-init t c =
 pub alternation-returns-in_err-all-2-clause-gives : goal.alternation-returns-in_err-all-2-clause-gives
 alternation-returns-in_err-all-2-clause-gives t c =
     let v = c.loop-work.invariant in
-    gives_fault _ _ _ (err_from_is_err_and c.from_residual-in_err-all-2.result c.from_residual-in_err-all-2.ensures.1)
+    gives_fault _ _ _ _ c.from_residual-in_err-all-2.ensures.1
     (grown_fails v.3 (λ t. c.loop-work-test.ensures) c.in_err-all-2.ensures.gives v.1)
 
 pub alternation-loop-work-preserved : goal.alternation-loop-work-preserved
@@ -56,7 +55,7 @@ pub branch-returns-in_err-all-clause-gives : goal.branch-returns-in_err-all-clau
 branch-returns-in_err-all-clause-gives t c =
     let s = c.args.s.now in
     let i = inside c.args.depth s in
-    gives_fault _ _ _ (err_from_is_err_and c.from_residual.result c.from_residual.ensures.1) (then_fault (many (branch_goes_on s) (branch_more i s) (length s)) (branch_is i s c.args.at c.args.used) c.in_err-all.ensures.gives)
+    gives_fault _ _ _ _ c.from_residual.ensures.1 (then_fault (many (branch_goes_on s) (branch_more i s) (length s)) (branch_is i s c.args.at c.args.used) c.in_err-all.ensures.gives)
 
 pub branch-loop-work-init : goal.branch-loop-work-init
 branch-loop-work-init t c =
@@ -66,7 +65,7 @@ branch-loop-work-init t c =
 pub branch-returns-in_err-all-2-clause-gives : goal.branch-returns-in_err-all-2-clause-gives
 branch-returns-in_err-all-2-clause-gives t c =
     let v = c.loop-work.invariant in
-    gives_fault _ _ _ (err_from_is_err_and c.from_residual-in_err-all-2.result c.from_residual-in_err-all-2.ensures.1)
+    gives_fault _ _ _ _ c.from_residual-in_err-all-2.ensures.1
     (grown_fails v.2 (λ t. c.loop-work-test.ensures) c.in_err-all-2.ensures.gives v.1)
 
 pub branch-loop-work-preserved : goal.branch-loop-work-preserved
@@ -91,7 +90,7 @@ extended-returns-clause-gives t c =
 pub group-returns-in_err-inner-clause-gives : goal.group-returns-in_err-inner-clause-gives
 group-returns-in_err-inner-clause-gives t c =
     let s = c.args.s.now in
-    gives_fault _ _ _ (err_from_is_err_and c.from_residual.result c.from_residual.ensures.1) (then_fault (closed_group s) (group_is c.args.depth s c.args.at c.args.used c.if-depth-eq0.false) c.in_err-inner.ensures.gives)
+    gives_fault _ _ _ _ c.from_residual.ensures.1 (then_fault (closed_group s) (group_is c.args.depth s c.args.at c.args.used c.if-depth-eq0.false) c.in_err-inner.ensures.gives)
 
 pub group-returns-then-not-stands-clause-gives : goal.group-returns-then-not-stands-clause-gives
 group-returns-then-not-stands-clause-gives t c =
@@ -113,7 +112,7 @@ group-returns t c =
 pub piece-returns-in_err-all-clause-gives : goal.piece-returns-in_err-all-clause-gives
 piece-returns-in_err-all-clause-gives t c =
     let s = c.args.s.now in
-    gives_fault _ _ _ (err_from_is_err_and c.from_residual.result c.from_residual.ensures.1)
+    gives_fault _ _ _ _ c.from_residual.ensures.1
     (then_fault (many (marked s) (repeated_more s) (length s)) (piece_is (inside c.args.depth s) s c.args.at c.args.used) c.in_err-all.ensures.gives)
 
 pub piece-loop-mark-init : goal.piece-loop-mark-init

@@ -1,5 +1,4 @@
 use Rattle.std.proofs.Common.{sym}
-use Rattle.std.proofs.lemmas.Result.{err_from_is_err_and}
 use Rattle.grammar.specs.Expressions.{one_of}
 use Rattle.expressions.proofs.Atoms.{one_is}
 use Rattle.expressions.proofs.Growing.{gives_fault, then_fault}
@@ -8,4 +7,4 @@ use Rattle.expressions.proofs.one.Goals as goal
 pub returns-in_err-chosen-clause-gives : goal.returns-in_err-chosen-clause-gives
 returns-in_err-chosen-clause-gives c =
     let is = one_is c.args.s.now c.args.at c.args.used c.if-not-atom_ahead.ensures c.if-used-ge-POSITIONS.false in
-    gives_fault _ _ _ (err_from_is_err_and c.from_residual.result c.from_residual.ensures.1) (then_fault (one_of c.args.used) is (sym c.in_err-chosen.ensures.is))
+    gives_fault _ _ _ _ c.from_residual.ensures.1 (then_fault (one_of c.args.used) is (sym c.in_err-chosen.ensures.is))

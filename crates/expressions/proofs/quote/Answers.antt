@@ -1,5 +1,4 @@
 use Rattle.std.proofs.Common.{not, refl, ap, arith}
-use Rattle.std.proofs.lemmas.Result.{err_from_is_err_and}
 use Rattle.tokens.proofs.Items.{stands_below}
 use Rattle.grammar.specs.Expressions.{past_quote}
 use Rattle.expressions.proofs.Atoms.{quote_is}
@@ -9,7 +8,7 @@ use Rattle.expressions.proofs.quote.Goals as goal
 pub returns-in_err-all-2-clause-gives : goal.returns-in_err-all-2-clause-gives
 returns-in_err-all-2-clause-gives c =
     let i = c.loop-work.invariant in
-    gives_fault _ _ _ (err_from_is_err_and c.from_residual-in_err-all-2.result c.from_residual-in_err-all-2.ensures.1)
+    gives_fault _ _ _ _ c.from_residual-in_err-all-2.ensures.1
     (then_fault past_quote (quote_is c.args.s.now c.args.at c.args.used c.if-stands.ensures) (grown_fails i.2 (λ t. ap not c.loop-work-test.ensures) c.in_err-all-2.ensures.gives i.1))
 
 pub loop-work-preserved : goal.loop-work-preserved

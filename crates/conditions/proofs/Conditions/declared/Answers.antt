@@ -1,6 +1,6 @@
 use Rattle.std.proofs.Common.{ap, ◌∙◌}
 use Rattle.conditions.specs.Known.{declares, declared_from}
-use Rattle.conditions.proofs.Loop.{thrown}
+use Rattle.tokens.proofs.Follow.{thrown}
 use Rattle.conditions.proofs.Lists.{declaring_starts, declaring_turns, declaring_fails, declaring_stops}
 use Rattle.conditions.proofs.Conditions.declared.Goals as goal
 

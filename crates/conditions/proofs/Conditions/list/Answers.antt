@@ -1,7 +1,7 @@
 use Rattle.std.proofs.Common.{Err, ap, ◌∙◌, arith}
 use Rattle.conditions.specs.Known.{picks}
 use Rattle.conditions.proofs.Names.{alone, joined}
-use Rattle.conditions.proofs.Loop.{thrown}
+use Rattle.tokens.proofs.Follow.{thrown}
 use Rattle.conditions.proofs.Lists.{picking_starts, picking_turns, picking_fails, picking_closes, picking_misfits}
 use Rattle.conditions.proofs.Conditions.list.Goals as goal
 
