@@ -1,6 +1,7 @@
 // What is kept of a rule file, in memory that the caller lends. Zeros stand where nothing is kept.
-// That memory is fixed, as nothing here may allocate: so counts stand beside the arrays, and rows are named by their
-// numbers, counted from 1, with 0 for none.
+// That memory is fixed, as nothing here may allocate: so counts stand beside the arrays. A row is named by its number,
+// counted from 1. Row 0 stands for the empty set of positions: 0 is no missing value, but the number of a row from which
+// nothing goes on.
 #![tactic(auto)]
 
 ghost use Rattle.std.specs.Prelude.{◌≡◌};

@@ -1,20 +1,15 @@
 -- Sets met one behind the other: which rows there are, and which numbers they have.
-use Rattle.std.proofs.Common.{◌≡◌, ℕ, zero, suc, ◌+◌, ◌<◌, ◌≤◌, true, false, cond, ◌&&◌, ◌||◌, ltb, leb, ◌⊎◌, ◌↔◌, List, [], ◌∷◌, ◌++◌, length, get_or, sym, refl, ap, ◌∙◌, subst, inl, inr, append_assoc, append-nil, add-zero, add-suc, suc-add, zero-add, add-one, arith, length-append}
+use Rattle.std.proofs.Common.{◌≡◌, ℕ, zero, suc, ◌+◌, ◌<◌, ◌≤◌, true, false, ◌&&◌, ◌||◌, ltb, leb, ◌⊎◌, List, [], ◌∷◌, ◌++◌, length, get_or, sym, refl, ap, ◌∙◌, subst, inl, inr, append_assoc, append-nil, add-zero, add-suc, suc-add, zero-add, arith, length-append}
 use lib.ListN.{get_or-append}
 use Rattle.std.proofs.lemmas.Bool.{cases_Bool, cases_lt, false≢true, or_cases, or_parts, or_from, or_left, or_right, and_from, and_left, and_right, cond-true, cond-false, lt-ltb, le-ltb, le-leb, lt-leb}
 use Rattle.grammar.specs.File.{RuleText}
 use Rattle.rows.specs.Sets.{Set, empty, same}
-use Rattle.rows.specs.Automaton.{start_set, trail_set, leads}
+use Rattle.rows.specs.Automaton.{leads}
 use Rattle.rows.specs.Numbering.{stored, place, number, meet, meet_all, starts, trails, none, leads_from, grown}
 use Rattle.rows.specs.Theorems.{Known, First}
 use Rattle.rows.proofs.Members.{same_refl}
 
 -- by places
-pub stored_from : (rs : List Set) (s : Set) (k : ℕ) → k < length rs → same (get_or rs k none) s ≡ true → stored rs s ≡ true
-stored_from [] s k lt h = absurd (omega arith)
-stored_from (r ∷ rs) s zero lt h = or_left (same r s) (stored rs s) h
-stored_from (r ∷ rs) s (suc k) lt h = or_right (same r s) (stored rs s) (stored_from rs s k (omega arith) h)
-
 pub stored_none : (rs : List Set) (s : Set) → stored rs s ≡ false → (k : ℕ) → k < length rs → same (get_or rs k none) s ≡ false
 stored_none [] s h k lt = absurd (omega arith)
 stored_none (r ∷ rs) s h zero lt = (or_parts (same r s) (stored rs s) h).0
@@ -45,9 +40,6 @@ place_first (r ∷ rs) s (suc k) h =
     cond-false (same r s) 1 (suc (place rs s)) f
     ∙ ap suc (place_first rs s k (record { within = omega (arith, h.within); equal = h.equal; earliest = λ j lt. h.earliest (suc j) (omega arith) }))
 
-pub stored_places : (rs : List Set) (s : Set) → (stored rs s ≡ true) ↔ ((k : ℕ) × (k < length rs) × (same (get_or rs k none) s ≡ true))
-stored_places rs s = (λ h. let q = stored_first rs s h in (q.0, q.1.within, q.1.equal), λ q. stored_from rs s q.0 q.1 q.2)
-
 -- rows added behind
 pub stored_append : (rs ts : List Set) (s : Set) → stored rs s ≡ true → stored (rs ++ ts) s ≡ true
 stored_append [] ts s h = absurd (false≢true h)
@@ -62,12 +54,6 @@ place_append (r ∷ rs) ts s h = elim (cases_Bool (same r s)) [
   | inl t ↦ rw t
   | inr f ↦ rw f (ap suc (place_append rs ts s (rw f at h)))
 ]
-
-pub place_behind : (rs ts : List Set) (s : Set) → stored rs s ≡ false → place (rs ++ ts) s ≡ length rs + place ts s
-place_behind [] ts s h = sym (zero-add (place ts s))
-place_behind (r ∷ rs) ts s h =
-    let p = or_parts (same r s) (stored rs s) h in
-    cond-false (same r s) 1 (suc (place (rs ++ ts) s)) p.0 ∙ ap suc (place_behind rs ts s p.1) ∙ sym (suc-add (length rs) (place ts s))
 
 pub known_append : (rs ts : List Set) (s : Set) → Known rs s → Known (rs ++ ts) s
 known_append rs ts s h = elim (or_cases (empty s) (stored rs s) h) [
@@ -92,33 +78,12 @@ number_append rs ts s h = elim (cases_Bool (empty s)) [
 pub meet_old : (rs : List Set) (s : Set) → Known rs s → meet rs s ≡ rs
 meet_old rs s h = cond-true (empty s || stored rs s) rs (rs ++ (s ∷ [])) h
 
-pub meet_empty : (rs : List Set) (s : Set) → empty s ≡ true → meet rs s ≡ rs
-meet_empty rs s h = meet_old rs s (or_left (empty s) (stored rs s) h)
-
-pub meet_stored : (rs : List Set) (s : Set) → stored rs s ≡ true → meet rs s ≡ rs
-meet_stored rs s h = meet_old rs s (or_right (empty s) (stored rs s) h)
-
-module _ (rs : List Set) (s : Set) (e : empty s ≡ false) (f : stored rs s ≡ false) where
-  pub meet_new : meet rs s ≡ rs ++ (s ∷ [])
-  meet_new = cond-false (empty s || stored rs s) rs (rs ++ (s ∷ [])) (or_from (empty s) (stored rs s) e f)
-
-  pub number_new : number (rs ++ (s ∷ [])) s ≡ suc (length rs)
-  number_new =
-      let one : place (s ∷ []) s ≡ 1 = cond-true (same s s) 1 2 (same_refl s) in
-      omega (arith, number_placed (rs ++ (s ∷ [])) s e, place_behind rs (s ∷ []) s f)
+pub meet_new : (rs : List Set) (s : Set) → empty s ≡ false → stored rs s ≡ false → meet rs s ≡ rs ++ (s ∷ [])
+meet_new rs s e f = cond-false (empty s || stored rs s) rs (rs ++ (s ∷ [])) (or_from (empty s) (stored rs s) e f)
 
 -- a set is known or new
 pub known_or_new : (rs : List Set) (s : Set) → Known rs s ⊎ ((empty s ≡ false) × (stored rs s ≡ false))
 known_or_new rs s = elim (cases_Bool (empty s || stored rs s)) [ inl t ↦ inl t | inr f ↦ inr (or_parts (empty s) (stored rs s) f) ]
-
-pub meet_number : (rs : List Set) (s : Set) → number (meet rs s) s ≡ cond (empty s) 0 (cond (stored rs s) (place rs s) (suc (length rs)))
-meet_number rs s = elim (cases_Bool (empty s)) [
-  | inl e ↦ rw e
-  | inr e ↦ elim (cases_Bool (stored rs s)) [
-    | inl t ↦ rw (e, t)
-    | inr f ↦ ap (λ us. number us s) (meet_new rs s e f) ∙ number_new rs s e f ∙ rw (e, f) refl
-  ]
-]
 
 -- rows at the front stay
 abbrev pub Front : List Set → List Set → Type 0
@@ -192,24 +157,6 @@ module _ (qs : List RuleText) where
   pub leads_from_more : (s : Set) (b n : ℕ) → leads_from qs s b (suc n) ≡ leads qs s b ∷ leads_from qs s (suc b) n
   unfolding leads_from
   leads_from_more s b n = refl
-
--- what is met, one more
-module _ (qs : List RuleText) (rs : List Set) where
-  pub starts_turn : (c : ℕ) → meet_all rs (starts qs 0 (suc c)) ≡ meet (meet (meet_all rs (starts qs 0 c)) (start_set qs 0 c false)) (start_set qs 0 c true)
-  starts_turn c =
-      ap (λ n. meet_all rs (starts qs 0 n)) (sym (add-one c)) ∙ ap (meet_all rs) (starts_append qs 0 c 1)
-      ∙ meet_all_append rs (starts qs 0 c) (starts qs (0 + c) 1) ∙ ap (λ d. meet_all (meet_all rs (starts qs 0 c)) (starts qs d 1)) (zero-add c)
-
-  pub trails_turn : (i : ℕ) → meet_all rs (trails qs 0 (suc i)) ≡ meet (meet_all rs (trails qs 0 i)) (trail_set qs 0 i)
-  trails_turn i =
-      ap (λ n. meet_all rs (trails qs 0 n)) (sym (add-one i)) ∙ ap (meet_all rs) (trails_append qs 0 i 1)
-      ∙ meet_all_append rs (trails qs 0 i) (trails qs (0 + i) 1) ∙ ap (λ d. meet_all (meet_all rs (trails qs 0 i)) (trails qs d 1)) (zero-add i)
-
-  pub leads_turn : (s : Set) (b : ℕ) → meet_all rs (leads_from qs s 0 (suc b)) ≡ meet (meet_all rs (leads_from qs s 0 b)) (leads qs s b)
-  unfolding leads_from
-  leads_turn s b =
-      ap (λ n. meet_all rs (leads_from qs s 0 n)) (sym (add-one b)) ∙ ap (meet_all rs) (leads_from_append qs s 0 b 1)
-      ∙ meet_all_append rs (leads_from qs s 0 b) (leads_from qs s (0 + b) 1) ∙ ap (λ d. meet_all (meet_all rs (leads_from qs s 0 b)) (leads_from qs s d 1)) (zero-add b)
 
 -- no more turns, and one turn more
 module _ (qs : List RuleText) (most : ℕ) where

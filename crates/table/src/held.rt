@@ -7,8 +7,8 @@ ghost use Rattle.table.specs.Readings.{initial_only, numbered, start_row, next_r
 use crate::check;
 use loaded::{Loaded, Row};
 
-// Rows past the count are cut off. A row is named as in loaded memory, whose form is fixed: by a u16 that counts from 1, and
-// 0 is no row.
+// Rows past the count are cut off. A row is named by its number, counted from 1. Where nothing goes on, `start`, `step` and
+// `trail` answer row 0, which stands for the empty set of positions, rather than None: a caller steps from it as from others.
 #[derive(Drop)]
 pub struct Table<'a> {
     loaded: Loaded,
@@ -80,6 +80,7 @@ impl<'a> Table<'a> {
     }
 
     // The row that a byte leads to; 0 from row 0, and from a row that the table lacks.
+    #[tactic(auto, using(crate::proofs::Numbers::next_numbered))]
     pub fn step(&self, row: u16, b: u8) -> u16
         ensures to { result ≡ next_row self.now.rows.now row b }
         ensures within { result ≤ length self.now.rows.now }
@@ -88,6 +89,7 @@ impl<'a> Table<'a> {
     }
 
     // The end marks of a row, bit i for rule i + 1; none of row 0, nor of a row that the table lacks.
+    #[tactic(auto, using(crate::proofs::Numbers::ends_numbered))]
     pub fn ends(&self, row: u16) -> u64
         ensures { result ≡ end_marks self.now.rows.now row }
     {
@@ -95,6 +97,7 @@ impl<'a> Table<'a> {
     }
 
     // The slash marks of a row, in the same way.
+    #[tactic(auto, using(crate::proofs::Numbers::slashes_numbered))]
     pub fn slashes(&self, row: u16) -> u64
         ensures { result ≡ slash_marks self.now.rows.now row }
     {
@@ -111,7 +114,7 @@ impl<'a> Table<'a> {
     }
 }
 
-// What has this number, counted from 1; nothing has the number 0.
+// What is stored under this number, counted from 1; row 0 isn't stored, and no rule has the number 0.
 fn numbered<T>(all: &[T], number: usize) -> Option<&T>
     ensures { option_copied result ≡ numbered all.now number }
 {

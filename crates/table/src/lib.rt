@@ -1,7 +1,7 @@
 // A table: loaded memory, and rows, that name no row, rule or condition that they lack.
 #![tactic(auto)]
 
-ghost use Rattle.std.specs.Prelude.{◌≡◌, ◌^◌, ◌<◌, ◌≤◌, length, MatchBool, MatchResult};
+ghost use Rattle.std.specs.Prelude.{◌≡◌, ◌^◌, ◌<◌, MatchBool, MatchResult};
 ghost use Rattle.table.specs.declared.NotWhole.TheVariants.{Lacking};
 ghost use Rattle.table.specs.Memory.{CountsFit, StartIn, StartsIn, TrailsIn, LeadsIn, RowsLeadIn, MarkedIn, MarksIn, ActiveIn, RulesActiveIn, step_in, BeginsIn, RulesBeginIn, Whole};
 
@@ -73,6 +73,7 @@ fn trails_in(loaded: &Loaded) -> bool
         .all(|rule| rule.trail as usize <= loaded.row_count)
 }
 
+// The four of this form stay: each decides its own part of Whole, and one over the test would take the same closures.
 fn rows_lead_in(loaded: &Loaded, rows: &[Row]) -> bool
     ensures { MatchBool result (RowsLeadIn loaded.now rows.now) (RowsLeadIn loaded.now rows.now → ⊥) }
 {
