@@ -21,7 +21,7 @@ module _ {F : Type 0} (g : Mut F (ℕ × Unit {0}) ℕ) (P : ℕ → ℕ → Typ
       let one = call i t.1 t.0 (subst (λ w. Called g w (i, tt) t.1 t.0) e t.3) in
       elim (cases_eq k i) [
         | inl s ↦ subst (λ m. P m (slice_index ys m)) (sym s) (subst (P i) (sym (t.2.1 0)) one.0)
-        | inr _ ↦ at_each n (i + 1) t.0 one.1 t.4 k (omega arith) (omega arith)
+        | inr other ↦ at_each n (i + 1) t.0 one.1 t.4 k (omega (arith, other)) (omega arith)
       ]
 
 pub returns : goal.returns
