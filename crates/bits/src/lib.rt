@@ -1,8 +1,10 @@
 // Sets of small numbers, in words.
 #![tactic(auto)]
 
-ghost use Rattle.std.specs.Prelude.{◌≡◌, ℕ, ◌+◌, ◌-◌, ◌*◌, ◌/◌, ◌<◌, ◌≤◌, true, false, not, ◌&&◌, ◌||◌, length, replicate, Decides, ◌==◌, nat_le, nat_lt};
+ghost use Rattle.std.specs.Prelude.{◌≡◌, ℕ, ◌+◌, ◌-◌, ◌*◌, ◌/◌, ◌<◌, ◌≤◌, true, false, not, ◌&&◌, ◌||◌, length, replicate, slice_index, bit_and, bit_or, Decides, ◌==◌, nat_le, nat_lt};
 ghost use Rattle.bits.specs.Set.{bit, has, First, FirstBit, Whole, MembersDecide};
+
+use std::array::from_fn;
 
 // A set of numbers below 64 * W, in W words: k is in it where bit k % 64 of word k / 64 is set.
 #[derive(Clone, Copy, PartialEq, Eq)]
@@ -56,27 +58,39 @@ impl<const W: usize> Bits<W> {
         *self = self.either(other);
     }
 
+    // The set whose word i is what `word` says of i. It stays within this crate: it asks that `word` can be called, and no
+    // public function asks anything. Each closure that is passed has clauses, since in generic code none are read off its body.
+    fn of_words<F: Fn(usize) -> u64>(word: F) -> Self
+        requires { (i : ℕ) → i < W → F.pre word i }
+        ensures { (i : ℕ) → i < W → F.post word i (slice_index result.words i) }
+    {
+        Bits {
+            words: from_fn(word),
+        }
+    }
+
     // The members below 64 * V.
     pub fn resized<const V: usize>(&self) -> Bits<V>
         ensures members { (j : ℕ) → has result.words j ≡ (nat_lt (j / 64) V && has self.now.words j) }
         ensures same { W ≤ V → (j : ℕ) → has result.words j ≡ has self.now.words j }
     {
-        let mut out = Bits::empty();
-        for (i, w) in out.words.iter_mut().enumerate() {
-            *w = self.words.get(i).copied().unwrap_or(0);
-        }
-        out
+        Bits::of_words(
+            |i| -> u64
+                ensures { result ≡ slice_index self.entry.now.words i }
+            { self.words.get(i).copied().unwrap_or(0) },
+        )
     }
 
     // Each member moved up by `by`; what would pass the end is left out.
     pub fn shifted(&self, by: usize) -> Self
         ensures { (j : ℕ) → has result.words j ≡ (nat_lt (j / 64) W && (nat_le by j && has self.now.words (j - by))) }
     {
-        let mut out = Bits::empty();
-        for (i, w) in out.words.iter_mut().enumerate() {
-            *w = self.moved(by, i);
-        }
-        out
+        Bits::of_words(
+            |i| -> u64
+                requires { i < W }
+                ensures { (b : ℕ) → b < 64 → bit result b ≡ (nat_le by (64 * i + b) && has self.entry.now.words (64 * i + b - by)) }
+            { self.moved(by, i) },
+        )
     }
 
     // Word i of the set moved up by `by`: parts of two neighbouring words, unless `by` is a multiple of 64.
@@ -100,11 +114,12 @@ impl<const W: usize> Bits<W> {
     pub fn complement(&self) -> Self
         ensures { (j : ℕ) → has result.words j ≡ (nat_lt (j / 64) W && not (has self.now.words j)) }
     {
-        let mut out = Bits::empty();
-        for (i, w) in out.words.iter_mut().enumerate() {
-            *w = !self.words[i];
-        }
-        out
+        Bits::of_words(
+            |i| -> u64
+                requires { i < W }
+                ensures { (b : ℕ) → b < 64 → bit result b ≡ not (bit (slice_index self.entry.now.words i) b) }
+            { !self.words[i] },
+        )
     }
 
     // Whether both have the same words, and so the same members.
@@ -119,11 +134,12 @@ impl<const W: usize> Bits<W> {
         ensures members { (j : ℕ) → has result.words j ≡ (has self.now.words j || has other.now.words j) }
         ensures whole { Whole W result.words }
     {
-        let mut all = Bits::empty();
-        for (i, w) in all.words.iter_mut().enumerate() {
-            *w = self.words[i] | other.words[i];
-        }
-        all
+        Bits::of_words(
+            |i| -> u64
+                requires { i < W }
+                ensures { result ≡ bit_or (slice_index self.entry.now.words i) (slice_index other.entry.now.words i) }
+            { self.words[i] | other.words[i] },
+        )
     }
 
     // The members that both sets have.
@@ -131,11 +147,12 @@ impl<const W: usize> Bits<W> {
         ensures members { (j : ℕ) → has result.words j ≡ (has self.now.words j && has other.now.words j) }
         ensures whole { Whole W result.words }
     {
-        let mut both = Bits::empty();
-        for (i, w) in both.words.iter_mut().enumerate() {
-            *w = self.words[i] & other.words[i];
-        }
-        both
+        Bits::of_words(
+            |i| -> u64
+                requires { i < W }
+                ensures { result ≡ bit_and (slice_index self.entry.now.words i) (slice_index other.entry.now.words i) }
+            { self.words[i] & other.words[i] },
+        )
     }
 
     // Whether there is no member.
