@@ -27,7 +27,8 @@ fn stage_after(step: Step) -> Stage
     }
 }
 
-// The place behind the blanks at n, which may stand behind a step that another may follow.
+// The place behind the blanks at n, which may stand behind a step that another may follow. That n lies in the text is
+// required, as in `brackets`.
 fn past_blanks(stage: Stage, s: &[u8], n: usize) -> usize
     requires { n ≤ length s.now }
     ensures is { result ≡ past_blanks stage s.now n }

@@ -170,7 +170,7 @@ fn dash(s: &[u8], first: bool, n: usize) -> Result<Read<ByteSet>, Fault>
     Err(misfit(n + 1))
 }
 
-// A member at n.
+// A member at n. Here and in `members` it is required that n lies in the text: a place is a plain number, as `tokens` says.
 fn member(s: &[u8], first: bool, n: usize) -> Result<Read<ByteSet>, Fault>
     requires { n ≤ length s.now }
     ensures is { chosen result ≡ member_at s.now first n }

@@ -107,6 +107,7 @@ impl Conditions {
         if !stands(s, picked.next, b'>') {
             return Err(misfit(picked.next));
         }
+        // Past the `>`; nothing is counted.
         picked.next += 1;
         Ok(picked)
     }

@@ -309,6 +309,7 @@ fn piece(s: &[u8], at: usize, used: usize, depth: usize, work: &mut Work) -> Res
     ensures moves { Moves result at (length s.now) }
 {
     let mut all = atom(s, at, used, depth, work)?;
+    // A `while`, as in `quote`.
     while let Some(mark) = repeat_mark(s, all.at) {
         all = all.marked(mark, work);
     }
@@ -348,6 +349,7 @@ fn branch(s: &[u8], at: usize, used: usize, depth: usize, work: &mut Work) -> Re
     ensures moves { Moves result at (length s.now) }
 {
     let mut all = piece(s, at, used, depth, work)?;
+    // A `while`, as in `quote`.
     while goes_on(s, all.at) {
         all = extended(s, all, used, depth, work)?;
     }
@@ -388,6 +390,7 @@ fn alternation(
     ensures whole { length work.new ≡ 1024 }
 {
     let mut all = branch(s, at, used, depth, work)?;
+    // A `while`, as in `quote`.
     while stands(s, all.at, b'|') {
         all = alternative(s, all, used, depth, work)?;
     }

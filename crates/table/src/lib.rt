@@ -73,7 +73,8 @@ fn trails_in(loaded: &Loaded) -> bool
         .all(|rule| rule.trail as usize <= loaded.row_count)
 }
 
-// The four of this form stay: each decides its own part of Whole, and one over the test would take the same closures.
+// This and `marks_in`, `rules_active_in` and `rules_begin_in` stay four: each decides its own part of Whole, and one function
+// over the test would take the same closures.
 fn rows_lead_in(loaded: &Loaded, rows: &[Row]) -> bool
     ensures { MatchBool result (RowsLeadIn loaded.now rows.now) (RowsLeadIn loaded.now rows.now → ⊥) }
 {

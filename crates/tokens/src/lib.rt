@@ -24,8 +24,8 @@ pub enum Kind {
     LineByte,
 }
 
-// An item of a rule file, which is a part of the file itself. An enum, as a rule of the project: what is cut from lent bytes
-// is told by its case.
+// An item of a rule file, which is a part of the file itself. An enum and no bare slice, so that the bytes of a name are
+// never taken for those of a number.
 #[derive(Clone, Copy)]
 pub enum Token<'a> {
     Name(&'a [u8]),
