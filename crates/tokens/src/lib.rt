@@ -80,7 +80,7 @@ fn from(s: &[u8], n: usize) -> &[u8]
     s.get(n..).unwrap_or(&[])
 }
 
-// The same by the list of those bytes.
+// What `span` says, by the list of those bytes.
 fn leading(s: &[u8], n: usize, most: usize, kind: Kind) -> usize
     ensures { result ≡ length (take_while (holds kind) (take most (drop n s.now))) }
 {
