@@ -8,6 +8,9 @@ ghost use Rattle.grammar.specs.Expressions.{bounds_at, behind_low, up_to, extra}
 use grammar::{Fault, Interval, Read, Refusal, misfit, refused};
 use tokens::{Token, number_at, stands};
 
+// The largest bound.
+const LARGEST: usize = 32;
+
 // The second bound, at k, behind a first bound m and a comma; or the `}` of `{m,}`.
 fn up_to(s: &[u8], m: usize, k: usize) -> Result<Read<Interval>, Fault>
     ensures is { result ≡ up_to s.now m k }
@@ -23,7 +26,7 @@ fn up_to(s: &[u8], m: usize, k: usize) -> Result<Read<Interval>, Fault>
         return Err(misfit(k));
     };
     let high = tokens::value(digits);
-    if high > 32 || high < m || high < 1 {
+    if high > LARGEST || high < m || high < 1 {
         return Err(refused(Refusal::OutOfBounds, k));
     }
     let next = k + digits.len();
@@ -62,7 +65,7 @@ pub fn bounds(s: &[u8], n: usize) -> Result<Read<Interval>, Fault>
         return Err(misfit(n));
     };
     let low = tokens::value(digits);
-    if low > 32 {
+    if low > LARGEST {
         return Err(refused(Refusal::OutOfBounds, n));
     }
     behind_low(s, n, low, n + digits.len())

@@ -1,4 +1,4 @@
-// Rule files: read whole into lent memory, or turned down with a number and a place.
+// How a rule file is read: its rules and their positions go into memory that the caller lends, or its first fault is told.
 #![tactic(auto)]
 
 ghost use Rattle.std.specs.Prelude.{◌≡◌, ℕ, ◌+◌, ◌<◌, ◌≤◌, false, ◌&&◌, ◌||◌, length, if◌then◌else◌, Some, None, IfOk, IfSome};

@@ -1,4 +1,4 @@
-use Rattle.std.proofs.Common.{ap, ◌∙◌}
+use Rattle.std.proofs.Common.{ap, ◌∙◌, rules}
 use Rattle.conditions.specs.Known.{known}
 use Rattle.actions.specs.Steps.{view, does}
 use Rattle.tokens.proofs.Follow.{thrown}
@@ -23,3 +23,6 @@ loop-read-preserved c =
 
 pub returns : goal.returns
 returns c = reads_ends _ _ _ c.if-stands.ensures _ c.loop-read.invariant c.loop-read-test.false
+
+pub returns-then-stands : goal.returns-then-stands
+returns-then-stands c = search rules

@@ -12,3 +12,6 @@ returns c =
 
 pub loop-p-init : goal.loop-p-init
 loop-p-init c = (search rules, search rules)
+
+pub loop-p-preserved : goal.loop-p-preserved
+loop-p-preserved c = search rules

@@ -2,10 +2,16 @@ use Rattle.std.proofs.Common.{arith, rules}
 use Rattle.report.proofs.Lines.{line_start-take}
 use Rattle.report.proofs.locate.Goals as goal
 
+pub returns-clause-line : goal.returns-clause-line
+returns-clause-line c = search rules
+
 pub returns-clause-start : goal.returns-clause-start
 returns-clause-start c =
     let same = line_start-take c.args.file.now c.min-at.result c.min-at.result (omega arith) in
     search rules
+
+pub returns-clause-end : goal.returns-clause-end
+returns-clause-end c = search rules
 
 pub returns-clause-column : goal.returns-clause-column
 returns-clause-column c =
