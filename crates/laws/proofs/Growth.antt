@@ -70,7 +70,7 @@ module _ (s : List ℕ) where
       (λ l. ill h))
       (λ f. ill h)
 
-  quoted_ends : (n u : ℕ) → n ≤ length s → Ends (Grown s n u) (length s) (quoted_byte s n u)
+  pub quoted_ends : (n u : ℕ) → n ≤ length s → Ends (Grown s n u) (length s) (quoted_byte s n u)
   quoted_ends n u h =
       cond_ends (ltb n (length s))
       (λ t. cond_ends (ltb u 512)
@@ -86,13 +86,18 @@ module _ (s : List ℕ) where
         many_ends (λ (q : Parsed). q.at) (Grown s n u) (length s) go step (λ q g. g.inside)
         (λ q g t. map_ends (λ r k. (k.grown, k.behind)) (turn q g t)) (length s) p h (omega (arith, h.on))
 
+  -- up to the closing `"`
+  pub in_quotes_ends : (n u : ℕ) → n ≤ length s → (p : Parsed) → Grown s n u p → Ends (λ (q : Parsed). Grown s n u q × (in_quotes s q ≡ false)) (length s) (many (in_quotes s) (quoted_more s) (length s) p)
+  in_quotes_ends n u h p k =
+      loop_ends (in_quotes s) (quoted_more s) n u
+      (λ q g t. then_ends (joined_by Then q) (quoted_ends q.at q.used g.inside) (λ r i. join_ends Then (λ e f. refl) n u q.at q r g (omega arith) i))
+      p k
+
   quote_ends : (n u : ℕ) → n ≤ length s → Ends (Grown s n u) (length s) (quote_at s n u)
   quote_ends n u h =
       cond_ends (stands s n 34) (λ t. ill h)
       (λ f. then_ends past_quote
-      (then_ends (many (in_quotes s) (quoted_more s) (length s)) (quoted_ends n u h)
-      (loop_ends (in_quotes s) (quoted_more s) n u
-      (λ p g t. then_ends (joined_by Then p) (quoted_ends p.at p.used g.inside) (λ q k. join_ends Then (λ e f. refl) n u p.at p q g (omega arith) k))))
+      (then_ends (many (in_quotes s) (quoted_more s) (length s)) (quoted_ends n u h) (in_quotes_ends n u h))
       (λ p k.
       let lt : p.at < length s = standing s p.at 34 (not-false (stands s p.at 34) k.1) in
       let g = k.0 in
