@@ -47,12 +47,12 @@ MarkedIn n r = (r.ends < 2 ^ n) × (r.slashes < 2 ^ n)
 abbrev pub MarksIn : Loaded → List Row → Type 0
 MarksIn l rs = (k : ℕ) → k < l.row_count → MarkedIn l.rule_count (row_at rs k)
 
--- a rule is active in no condition past the last of n
+-- a rule, used or not, is active in no condition past the last of n
 abbrev pub ActiveIn : ℕ → List ℕ → Type 0
 ActiveIn n words = (k : ℕ) → has words k ≡ true → k < n
 
 abbrev pub RulesActiveIn : Loaded → Type 0
-RulesActiveIn l = (i : ℕ) → i < l.rule_count → ActiveIn l.condition_count (rule_at l i).conditions.words
+RulesActiveIn l = (i : ℕ) → i < 64 → ActiveIn l.condition_count (rule_at l i).conditions.words
 
 -- and none of its steps begins one
 abbrev pub step_in : ℕ → Option Step → Bool
@@ -63,7 +63,7 @@ abbrev pub BeginsIn : ℕ → List (Option Step) → Type 0
 BeginsIn n ts = (j : ℕ) → j < 10 → IsTrue (step_in n (slice_index_or ts j None))
 
 abbrev pub RulesBeginIn : Loaded → Type 0
-RulesBeginIn l = (i : ℕ) → i < l.rule_count → BeginsIn l.condition_count (rule_at l i).steps
+RulesBeginIn l = (i : ℕ) → i < 64 → BeginsIn l.condition_count (rule_at l i).steps
 
 -- l and rs name no row, rule or condition that they lack
 abbrev pub Whole : Loaded → List Row → Type 0

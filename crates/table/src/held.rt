@@ -80,7 +80,6 @@ impl<'a> Table<'a> {
     }
 
     // The row that a byte leads to; 0 from row 0, and from a row that the table lacks.
-    #[tactic(auto, using(crate::proofs::Numbers::next_numbered))]
     pub fn step(&self, row: u16, b: u8) -> u16
         ensures to { result ≡ next_row self.now.rows.now row b }
         ensures within { result ≤ length self.now.rows.now }
@@ -89,7 +88,6 @@ impl<'a> Table<'a> {
     }
 
     // The end marks of a row, bit i for rule i + 1; none of row 0, nor of a row that the table lacks.
-    #[tactic(auto, using(crate::proofs::Numbers::ends_numbered))]
     pub fn ends(&self, row: u16) -> u64
         ensures { result ≡ end_marks self.now.rows.now row }
     {
@@ -97,7 +95,6 @@ impl<'a> Table<'a> {
     }
 
     // The slash marks of a row, in the same way.
-    #[tactic(auto, using(crate::proofs::Numbers::slashes_numbered))]
     pub fn slashes(&self, row: u16) -> u64
         ensures { result ≡ slash_marks self.now.rows.now row }
     {

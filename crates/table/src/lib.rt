@@ -18,6 +18,15 @@ pub enum NotWhole {
     Lacking = 9,
 }
 
+// The number that the reason is reported by.
+impl From<NotWhole> for u8 {
+    ghost from_gives = { λ _ number. number ≡ 9 };
+
+    fn from(reason: NotWhole) -> u8 {
+        reason as u8
+    }
+}
+
 // Whether memory is a table's, that is, whether it names only what it has.
 pub fn check(loaded: &Loaded, rows: &[Row]) -> Result<(), NotWhole>
     ensures { MatchResult result (λ _. Whole loaded.now rows.now) (λ e. (e ≡ Lacking) × (Whole loaded.now rows.now → ⊥)) }
@@ -117,7 +126,6 @@ fn rules_active_in(loaded: &Loaded) -> bool
     loaded
         .rules
         .iter()
-        .take(loaded.rule_count)
         .all(|rule| active_in(rule.conditions, loaded.condition_count))
 }
 
@@ -134,7 +142,6 @@ fn rules_begin_in(loaded: &Loaded) -> bool
     loaded
         .rules
         .iter()
-        .take(loaded.rule_count)
         .all(|rule| begins_in(rule, loaded.condition_count))
 }
 
