@@ -41,7 +41,7 @@ slash_mark [] a i p = false
 slash_mark (q ∷ qs) a zero p = slash_of q.trailing (slash q.expression a) p
 slash_mark (q ∷ qs) a (suc i) p = slash_mark qs (a + rule_size q) i p
 
--- a byte leads to the union of what comes after each position that takes it
+-- where b leads from s: whatever may come straight after a member that takes it
 unfoldable pub leads : List RuleText → Set → ℕ → Set
 leads qs s b t = some 512 (λ p. s p && (takes qs 0 p b && after qs 0 p t))
 

@@ -1,4 +1,4 @@
--- Rows count from 1 as their sets are met. The empty set is row 0, and not stored.
+-- Sets are numbered from 1 as they first come up. One without members has no row, and its number is 0.
 use Rattle.std.specs.Prelude.{ℕ, zero, suc, Bool, true, false, cond, ◌&&◌, ◌||◌, List, [], ◌∷◌, ◌++◌, length, nat_le, nat_lt, slice_index_or}
 use Rattle.grammar.specs.File.{RuleText}
 use Rattle.rows.specs.Sets.{Set, empty, same}
@@ -26,7 +26,7 @@ abbrev pub meet_all : List Set → List Set → List Set
 meet_all rs [] = rs
 meet_all rs (s ∷ ss) = meet_all (meet rs s) ss
 
--- the starts by condition, not at line start before at line start
+-- for each condition its start away from line start, then the one at it
 abbrev pub starts : List RuleText → ℕ → ℕ → List Set
 starts qs c zero = []
 starts qs c (suc n) = start_set qs 0 c false ∷ (start_set qs 0 c true ∷ starts qs (suc c) n)

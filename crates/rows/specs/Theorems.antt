@@ -61,3 +61,18 @@ pub record SameIsEqualMembers : Type 0 where
 
 abbrev pub EntriesWithin : Type 0
 EntriesWithin = (rs : List Set) (s : Set) → Known rs s → number rs s ≤ length rs
+
+-- where the rows fit, more room changes none of them
+abbrev pub RoomChangesNothing : Type 0
+RoomChangesNothing =
+    (qs : List RuleText) (conditions most more : ℕ) → length (row_sets qs conditions most) ≤ most → most ≤ more → row_sets qs conditions more ≡ row_sets qs conditions most
+
+-- row k, counted from 0, stands for a start, for a trail start, or for where a byte leads from a row before it
+pub data Met (qs : List RuleText) (conditions : ℕ) (rs : List Set) (k : ℕ) : Type 0 where
+  at_start : (c : ℕ) (line : Bool) → c < conditions → slice_index_or rs k none ≡ start_set qs 0 c line → Met qs conditions rs k
+  at_trail : (i : ℕ) → i < length qs → slice_index_or rs k none ≡ trail_set qs 0 i → Met qs conditions rs k
+  from_row : (j b : ℕ) → j < k → b < 256 → slice_index_or rs k none ≡ leads qs (slice_index_or rs j none) b → Met qs conditions rs k
+
+-- no other set is stored
+abbrev pub StoredAreMet : Type 0
+StoredAreMet = (qs : List RuleText) (conditions most k : ℕ) → k < length (row_sets qs conditions most) → Met qs conditions (row_sets qs conditions most) k

@@ -1,7 +1,7 @@
 // Rows by the sets that they stand for, which specs/ defines; here are theorems on them, each the contract of a function.
 #![tactic(auto)]
 
-ghost use Rattle.rows.specs.Theorems.{RowsDistinct, MetAreStored, NumbersNameRows, SameIsEqualMembers, EntriesWithin};
+ghost use Rattle.rows.specs.Theorems.{RowsDistinct, MetAreStored, NumbersNameRows, SameIsEqualMembers, EntriesWithin, RoomChangesNothing, StoredAreMet};
 
 // No two rows stand for the same set, and none for the empty one.
 pub fn rows_are_distinct()
@@ -26,4 +26,14 @@ pub fn same_is_equal_members()
 // No number is more than the rows are.
 pub fn entries_lie_within()
     ensures { EntriesWithin }
+{}
+
+// Rows that fit are the same in more room.
+pub fn room_changes_nothing()
+    ensures { RoomChangesNothing }
+{}
+
+// Each row stands for a start, a trail start, or where a byte leads from a row before it.
+pub fn stored_are_met()
+    ensures { StoredAreMet }
 {}
