@@ -1,5 +1,5 @@
 -- What a rule file is loaded as, or why it is not.
-use Rattle.std.specs.Prelude.{◌≡◌, ℕ, ◌-◌, ◌<◌, ◌≤◌, Bool, true, false, cond, ◌&&◌, List, ◌++◌, map, length, replicate, Ok, Err, Result, nat_le, slice_index, slice_index_or}
+use Rattle.std.specs.Prelude.{◌≡◌, ℕ, ◌-◌, ◌<◌, ◌≤◌, Bool, true, false, cond, ◌&&◌, List, ◌++◌, map, length, replicate, Ok, Err, Result, IfOk, nat_le, slice_index, slice_index_or}
 use Rattle.std.specs.List.{range_with_len}
 use Rattle.bits.specs.Set.{bit}
 use Rattle.positions.specs.Memory.{Work}
@@ -16,7 +16,7 @@ use Rattle.rulefile.specs.Loaded.{RulesHold, trails_of}
 use Rattle.rows.specs.Sets.{Set}
 use Rattle.rows.specs.Automaton.{start_set, trail_set, end_mark, slash_mark, leads, meets}
 use Rattle.rows.specs.Numbering.{number, none, row_sets}
-use Rattle.table.specs.Memory.{row_at}
+use Rattle.table.specs.Memory.{row_at, Whole}
 use Rattle.loading.specs.declared.Sizes.{Sizes}
 
 -- the sets that the rows of a file stand for, in their order; more than `most` where that is not enough for them
@@ -97,3 +97,9 @@ abbrev pub Leaves : List ℕ → Loaded → Loaded → List Row → List Row →
 Leaves file l l' rows rows' w w' (Ok n) =
     (f : RuleFile) × (rule_file_of file ≡ Ok f) × Holds f (sets_of f (length rows)) l' rows'
 Leaves file l l' rows rows' w w' (Err e) = RefusalLeaves e.refusal l l' rows rows' w w'
+
+-- the answer, what it leaves, and that a loaded file passes the check before take up
+pub record Loads (file : List ℕ) (l l' : Loaded) (rows rows' : List Row) (w w' : Work) (r : Result Sizes Fault) : Type 0 where
+  pub answer : r ≡ outcome file (length rows) (length w)
+  pub leaves : Leaves file l l' rows rows' w w' r
+  pub passes : IfOk r (λ n. Whole l' rows')

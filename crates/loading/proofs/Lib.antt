@@ -1,0 +1,14 @@
+pub mod MachineSets
+pub mod MachineRules
+pub mod Stored
+pub mod Leading
+pub mod Entering
+pub mod Rows
+pub mod Growing
+pub mod Starting
+pub mod Trailing
+pub mod Built
+pub mod Judged
+pub mod Passing
+pub mod Loading
+pub mod Determined

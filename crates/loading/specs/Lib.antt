@@ -1,0 +1,4 @@
+pub mod Load
+pub mod Machine
+pub mod Building
+pub mod Determined
