@@ -1,5 +1,7 @@
-// Reads cases.txt, a rule file to a line: a name, a tab, and the file's bytes as escaped text. Prints a line for each: the
-// name, and what the file has, or the number and the place of its first fault.
+// Reads cases.txt, a rule file to a line: a name, a tab, and the file's bytes as escaped text; behind another tab may stand
+// how many rows are lent. Prints a line for each: the name, and what the file has, or the number and the place of its first
+// fault. Then reads listings.txt, a place to a line: a name, a rule file and a sheet, and perhaps a condition, 1 or 0 for at
+// line start or not, and how many bytes of the sheet come before. Prints a line for each: the name, and what is listed there.
 #![tactic(auto)]
 
 use anyhow::Context;
@@ -8,31 +10,96 @@ use bits::{Bits, PositionSet};
 mod escaped;
 
 use escaped::decode;
-use loaded::Loaded;
-use rulefile::{WORK_SETS, read_rules};
+use grammar::Fault;
+use loaded::{Loaded, Row};
+use loading::{MOST_ROWS, load};
+use readings::readings;
+use rulefile::{Counts, WORK_SETS, read_rules};
+use scan::Start;
 use std::fs;
+use std::str::Split;
+use table::take_up;
+use texts::Sheet;
 
-// Reads one rule file, and prints what came out.
-fn show(rt: &HostRuntime, name: &str, file: &[u8], work: &mut [PositionSet]) -> anyhow::Result<()> {
+// How much a rule file has, and how many rows. Loading alone does not tell its positions.
+fn sizes(file: &[u8], rows: &mut [Row], work: &mut [PositionSet]) -> Result<(Counts, usize), Fault> {
     let mut loaded = Loaded::zeros();
-    match read_rules(file, &mut loaded, work) {
-        Ok(counts) => println!(rt; "{name}: {counts}")?,
+    let sizes = load(file, &mut loaded, rows, work)?;
+    Ok((read_rules(file, &mut loaded, work)?, sizes.rows))
+}
+
+// One rule file, and what came out.
+fn show(
+    rt: &HostRuntime,
+    line: &str,
+    rows: &mut [Row],
+    work: &mut [PositionSet],
+) -> anyhow::Result<()> {
+    let mut fields = line.split('\t');
+    let name = fields.next().context("a case has no name")?;
+    let text = fields.next().context("a case has no rule file")?;
+    let file = decode(rt.alloc(), text.as_bytes())?;
+    let given = match fields.next() {
+        Some(word) => word.parse::<usize>()?.min(rows.len()),
+        None => MOST_ROWS.min(rows.len()),
+    };
+    match sizes(file.as_slice(), &mut rows[..given], work) {
+        Ok((counts, rows)) => println!(rt; "{name}: {counts}, {rows} rows")?,
         Err(fault) => println!(rt; "{name}: load {fault}")?,
     }
     Ok(())
 }
 
-fn run(rt: &HostRuntime) -> anyhow::Result<()> {
-    let table = fs::read_to_string(rt, "cases.txt")?;
-    let mut work: Vec<PositionSet> = vec![in rt.alloc(); Bits::empty(); WORK_SETS]?;
-    for line in table.lines() {
-        let (name, text) = line.split_once('\t').context("a case has no tab")?;
-        let file = decode(rt.alloc(), text.as_bytes())?;
-        show(rt, name, file.as_slice(), work.as_mut_slice())?;
+// A number in the next field, or another one where there is no field.
+fn number(field: Option<&str>, other: usize) -> anyhow::Result<usize> {
+    match field {
+        Some(word) => Ok(word.parse()?),
+        None => Ok(other),
     }
+}
+
+// One place, and what is listed there.
+fn show_listing(
+    rt: &HostRuntime,
+    line: &str,
+    rows: &mut [Row],
+    work: &mut [PositionSet],
+) -> anyhow::Result<()> {
+    let mut fields = line.split('\t');
+    let name = fields.next().context("a place has no name")?;
+    let text = fields.next().context("a place has no rule file")?;
+    let sheet = fields.next().context("a place has no sheet")?;
+    let start = Start {
+        condition: number(fields.next(), 0)?,
+        at_line_start: number(fields.next(), 1)? != 0,
+    };
+    let offset = number(fields.next(), 0)?;
+    let file = decode(rt.alloc(), text.as_bytes())?;
+    let sheet = decode(rt.alloc(), sheet.as_bytes())?;
+    let lent = MOST_ROWS.min(rows.len());
+    let rows = &mut rows[..lent];
+    let mut loaded = Loaded::zeros();
+    print!(rt; "{name}:")?;
+    if let Err(fault) = load(file.as_slice(), &mut loaded, rows, work) {
+        print!(rt; " load {fault}")?;
+    }
+    let table = take_up(&loaded, rows);
+    for reading in readings(&table, start, &Sheet::new(sheet.as_slice(), offset)) {
+        print!(rt; " {reading}")?;
+    }
+    println!(rt)?;
     Ok(())
 }
 
 fn main(rt: HostRuntime) -> anyhow::Result<()> {
-    run(&rt)
+    // One row more than can be lent, to see it refused.
+    let mut rows: Vec<Row> = vec![in rt.alloc(); Row::zeros(); MOST_ROWS + 1]?;
+    let mut work: Vec<PositionSet> = vec![in rt.alloc(); Bits::empty(); WORK_SETS]?;
+    for line in fs::read_to_string(&rt, "cases.txt")?.lines() {
+        show(&rt, line, rows.as_mut_slice(), work.as_mut_slice())?;
+    }
+    for line in fs::read_to_string(&rt, "listings.txt")?.lines() {
+        show_listing(&rt, line, rows.as_mut_slice(), work.as_mut_slice())?;
+    }
+    Ok(())
 }
