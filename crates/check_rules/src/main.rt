@@ -10,9 +10,8 @@ use loaded::{Loaded, Row};
 use loading::{MOST_ROWS, load};
 use report::{Caret, ShownLine, locate};
 use rulefile::{Counts, WORK_SETS, read_rules};
-use std::env;
-use std::fs;
 use std::io::ErrorKind;
+use std::{env, fs};
 
 // The bytes of rules.l; a file that is not there counts as empty.
 fn rules_file(rt: &HostRuntime) -> anyhow::Result<Vec<u8>> {
@@ -36,7 +35,11 @@ fn rows_given(rt: &HostRuntime) -> anyhow::Result<usize> {
 }
 
 // How much the file has, and how many rows. Loading alone does not tell its positions.
-fn sizes(file: &[u8], rows: &mut [Row], work: &mut [PositionSet]) -> Result<(Counts, usize), Fault> {
+fn sizes(
+    file: &[u8],
+    rows: &mut [Row],
+    work: &mut [PositionSet],
+) -> Result<(Counts, usize), Fault> {
     let mut loaded = Loaded::zeros();
     let sizes = load(file, &mut loaded, rows, work)?;
     Ok((read_rules(file, &mut loaded, work)?, sizes.rows))

@@ -11,9 +11,8 @@ use loading::{MOST_ROWS, load};
 use readings::readings;
 use rulefile::WORK_SETS;
 use scan::Start;
-use std::env;
-use std::fs;
 use std::io::ErrorKind;
+use std::{env, fs};
 use table::take_up;
 use texts::Sheet;
 
@@ -77,7 +76,12 @@ fn main(rt: HostRuntime) -> anyhow::Result<()> {
     let mut loaded = Loaded::zeros();
     let mut rows: Vec<Row> = vec![in rt.alloc(); Row::zeros(); MOST_ROWS]?;
     let mut work: Vec<PositionSet> = vec![in rt.alloc(); Bits::empty(); WORK_SETS]?;
-    if let Err(fault) = load(file.as_slice(), &mut loaded, rows.as_mut_slice(), work.as_mut_slice()) {
+    if let Err(fault) = load(
+        file.as_slice(),
+        &mut loaded,
+        rows.as_mut_slice(),
+        work.as_mut_slice(),
+    ) {
         println!(&rt; "load {fault}")?;
         bail!("rules.l is refused");
     }

@@ -22,7 +22,11 @@ use table::take_up;
 use texts::Sheet;
 
 // How much a rule file has, and how many rows. Loading alone does not tell its positions.
-fn sizes(file: &[u8], rows: &mut [Row], work: &mut [PositionSet]) -> Result<(Counts, usize), Fault> {
+fn sizes(
+    file: &[u8],
+    rows: &mut [Row],
+    work: &mut [PositionSet],
+) -> Result<(Counts, usize), Fault> {
     let mut loaded = Loaded::zeros();
     let sizes = load(file, &mut loaded, rows, work)?;
     Ok((read_rules(file, &mut loaded, work)?, sizes.rows))
