@@ -1,9 +1,6 @@
 -- After bytes, a loaded table is in the row of the set that they lead to.
-use Rattle.std.proofs.Common.{◌≡◌, ℕ, suc, ◌<◌, ◌≤◌, Bool, List, length, All, ap, ◌∙◌}
-use Rattle.grammar.specs.File.{RuleFile}
+use Rattle.std.proofs.Common.{length, ap, ◌∙◌}
 use Rattle.laws.proofs.Whole.{limits_kept}
-use Rattle.loaded.specs.declared.Row.{Row}
-use Rattle.loaded.specs.declared.Loaded.{Loaded}
 use Rattle.rows.specs.Automaton.{start_set, trail_set}
 use Rattle.rows.proofs.Rows.{met_are_stored}
 use Rattle.loading.specs.Load.{sets_of}

@@ -1,28 +1,23 @@
 -- What is read of the row with a set's number is true of the set.
-use Rattle.std.proofs.Common.{◌≡◌, ℕ, zero, suc, ◌+◌, ◌<◌, ◌≤◌, Bool, true, false, ◌&&◌, ◌||◌, ◌⊎◌, List, [], ◌∷◌, length, get_or, All, sym, refl, ap, ◌∙◌, inl, inr, arith}
+use Rattle.std.proofs.Common.{◌≡◌, ℕ, suc, ◌<◌, ◌≤◌, true, false, ◌&&◌, ◌||◌, ◌⊎◌, List, [], ◌∷◌, length, get_or, All, sym, refl, ap, ◌∙◌, inl, inr, arith}
 use Rattle.std.proofs.lemmas.Bool.{cases_Bool, or_left, and_left, and_right}
 use Rattle.bits.specs.Set.{bit}
 use Rattle.bits.proofs.Words.{bit_zero}
-use Rattle.grammar.specs.File.{RuleText, rule_size}
+use Rattle.grammar.specs.File.{RuleText}
 use Rattle.loaded.specs.declared.Row.{Row}
-use Rattle.rows.specs.Sets.{Set, some, empty, same}
+use Rattle.rows.specs.Sets.{Set, empty, same}
 use Rattle.rows.specs.Automaton.{takes, after, end_mark, slash_mark, leads, meets}
 use Rattle.rows.specs.Numbering.{stored, number, none}
 use Rattle.rows.specs.Theorems.{Known, First}
-use Rattle.rows.proofs.Members.{same_true, same_empty, same_leads, empty_true, empty_from}
+use Rattle.rows.proofs.Members.{some_both, some_false, meets_false, same_true, same_empty, same_leads, empty_true, empty_from}
 use Rattle.rows.proofs.Meeting.{stored_first, place_first, number_empty, number_placed}
 use Rattle.rows.proofs.Alike.{alike_same, alike_stored, alike_number}
 use Rattle.table.specs.Memory.{row_at}
 use Rattle.table.specs.Readings.{next_row, end_marks, slash_marks}
 use Rattle.loading.specs.Load.{RowHolds}
-use Rattle.loading.proofs.MachineSets.{some_false}
+use Rattle.loading.proofs.Rows.{end_past}
 use Rattle.reached.specs.Reached.{reached}
 use Rattle.scan.specs.Listed.{row_after}
-
--- two tests that agree below n
-some_both : (n : ℕ) (f g : ℕ → Bool) → ((p : ℕ) → p < n → f p ≡ g p) → some n f ≡ some n g
-some_both zero f g h = refl
-some_both (suc n) f g h = rw (h n (omega arith), some_both n f g (λ p lt. h p (omega arith)))
 
 -- marks in same sets, and in the empty one
 same_meets : (s t m : Set) → same s t ≡ true → meets s m ≡ meets t m
@@ -30,8 +25,7 @@ unfolding meets
 same_meets s t m h = some_both 512 (λ p. s p && m p) (λ p. t p && m p) (λ p lt. ap (λ x. x && m p) (same_true s t h p lt))
 
 empty_meets : (s m : Set) → empty s ≡ true → meets s m ≡ false
-unfolding meets
-empty_meets s m h = some_false 512 (λ p. s p && m p) (λ p lt. and_left (s p) (m p) (empty_true s h p lt))
+empty_meets s m h = meets_false s m (λ p lt. and_left (s p) (m p) (empty_true s h p lt))
 
 -- the empty set leads to itself
 empty_leads : (qs : List RuleText) (s : Set) (b : ℕ) → empty s ≡ true → empty (leads qs s b) ≡ true
@@ -91,11 +85,5 @@ module _ (qs : List RuleText) (rs : List Set) (rows : List Row) (hold : (k : ℕ
         rw (next_is s b k lt) (row_reached (leads qs s b) t (leads_known s b k lt) (λ i d small. a (suc i) d (omega arith)))
 
 -- there is no mark of a rule past the last
-unmarked_at : (qs : List RuleText) (a i p : ℕ) → length qs ≤ i → end_mark qs a i p ≡ false
-unmarked_at [] a i p past = refl
-unmarked_at (q ∷ qs) a zero p past = absurd (omega arith)
-unmarked_at (q ∷ qs) a (suc i) p past = unmarked_at qs (a + rule_size q) i p (omega arith)
-
 pub unmarked : (qs : List RuleText) (s : Set) (i : ℕ) → length qs ≤ i → meets s (end_mark qs 0 i) ≡ false
-unfolding meets
-unmarked qs s i past = some_false 512 (λ p. s p && end_mark qs 0 i p) (λ p lt. and_right (s p) (end_mark qs 0 i p) (unmarked_at qs 0 i p past))
+unmarked qs s i past = meets_false s (end_mark qs 0 i) (λ p lt. and_right (s p) (end_mark qs 0 i p) (end_past qs 0 i p past))

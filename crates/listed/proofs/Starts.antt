@@ -1,8 +1,6 @@
 -- The rows that a loaded table starts from are those of the start sets and of the trail starts.
-use Rattle.std.proofs.Common.{◌≡◌, ℕ, suc, ◌+◌, ◌<◌, ◌≤◌, Bool, true, false, cond, ◌&&◌, ltb, List, [], ◌∷◌, map, length, get_or, sym, refl, ap, ◌∙◌, inl, inr, arith}
-use Rattle.std.specs.List.{range_with_len}
-use lib.ListN.{get_or-append, get_or-map}
-use Rattle.std.proofs.lemmas.List.FromFn.{get_or-map-range_with_len, length-map-range_with_len}
+use Rattle.std.proofs.Common.{◌≡◌, ℕ, suc, ◌+◌, ◌<◌, ◌≤◌, Bool, true, false, cond, ◌&&◌, ltb, List, [], ◌∷◌, length, get_or, sym, refl, ap, ◌∙◌, inl, inr, arith}
+use lib.ListN.{get_or-map}
 use Rattle.std.proofs.lemmas.Bool.{cases_lt, or_left, or_from, and_left, cond-true, cond-false, lt-ltb, le-ltb, false_from_ne_true}
 use Rattle.patterns.specs.Positions.{first}
 use Rattle.grammar.specs.File.{RuleText, RuleFile, rule_size}
@@ -20,13 +18,8 @@ use Rattle.rows.proofs.Members.{empty_from}
 use Rattle.rows.proofs.Meeting.{number_empty}
 use Rattle.table.specs.Memory.{rule_at, start_at}
 use Rattle.table.specs.Readings.{start_row, trail_row}
-use Rattle.loading.specs.Load.{start_of, trail_of, filled, Holds}
-
--- one of the first n by a rule
-filled_at : {X : Type 0} (at : ℕ → X) (n all : ℕ) (zero d : X) (i : ℕ) → i < n → get_or (filled at n all zero) i d ≡ at i
-filled_at at n all z d i lt =
-    get_or-append (map at (range_with_len 0 n)) _ d i (omega (arith, length-map-range_with_len at 0 n))
-    ∙ get_or-map-range_with_len at 0 n i i d lt (omega arith)
+use Rattle.loading.specs.Load.{start_of, trail_of, Holds}
+use Rattle.loading.proofs.Built.{filled_at}
 
 -- no rule is active in a condition past the last
 module _ (n c : ℕ) (line : Bool) (past : n ≤ c) where

@@ -1,5 +1,5 @@
 -- The table of a loaded rule file lists what its patterns allow.
-use Rattle.std.proofs.Common.{◌≡◌, ℕ, zero, suc, ◌<◌, ◌≤◌, Bool, true, false, not, ◌&&◌, ◌||◌, ◌↔◌, List, [], ◌∷◌, length, take, drop, slice_get, Option, Some, None, IsSome, All, refl, sym, ap, subst, ◌∙◌, inl, inr, arith, length-take-le}
+use Rattle.std.proofs.Common.{◌≡◌, ℕ, suc, ◌<◌, ◌≤◌, Bool, true, false, not, ◌&&◌, ◌||◌, ◌↔◌, List, [], ◌∷◌, length, take, drop, slice_get, Option, Some, None, IsSome, All, refl, sym, ap, subst, ◌∙◌, inl, inr, arith, length-take-le}
 use Rattle.std.proofs.lemmas.Bool.{false≢true, and_parts, and_from, or_cases, not-true}
 use Rattle.std.proofs.lemmas.List.Elements.{All-take, All-drop}
 use Rattle.std.proofs.lemmas.Option.{slice_get_within, slice_get_cases}
@@ -18,6 +18,7 @@ use Rattle.table.specs.Readings.{end_marks, slash_marks, trail_row}
 use Rattle.loading.specs.Load.{sets_of}
 use Rattle.listings.specs.declared.Reading.{Reading}
 use Rattle.listings.specs.Listing.{Place, Splits, Listed}
+use Rattle.listings.proofs.Near.{take_take}
 use Rattle.listings.proofs.Ordered.{listing_as}
 use Rattle.reached.specs.Reached.{reached, Headed, Slashed, MarksTell}
 use Rattle.reached.proofs.Marks.{rows_tell}
@@ -28,12 +29,6 @@ use Rattle.listed.specs.Loaded.{TablesList}
 use Rattle.listed.proofs.Numbers.{ends_are, slashes_are, row_reached, unmarked}
 use Rattle.listed.proofs.Starts.{Ready, start_known, start_is, trail_is}
 use Rattle.listed.proofs.Heads.{TellsSplits, head_of_fit, fit_of_head}
-
-take_take : {X : Type 0} (h n : ℕ) (xs : List X) → h ≤ n → take h (take n xs) ≡ take h xs
-take_take zero n xs le = refl
-take_take (suc h) zero xs le = absurd (omega arith)
-take_take (suc h) (suc n) [] le = refl
-take_take (suc h) (suc n) (x ∷ xs) le = ap (λ ys. x ∷ ys) (take_take h n xs (omega arith))
 
 -- active, and its `^` met
 live_parts : (q : RuleText) (c : ℕ) (line : Bool) → live q c line ≡ true → (q.active c ≡ true) × (q.anchored ≡ true → line ≡ true)

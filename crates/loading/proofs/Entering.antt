@@ -1,14 +1,14 @@
 -- The entries of a row, byte after byte.
-use Rattle.std.proofs.Common.{◌≡◌, ℕ, zero, suc, ◌+◌, ◌-◌, ◌<◌, ◌≤◌, Bool, true, false, ◌&&◌, ◌≢◌, List, [], ◌∷◌, ◌++◌, length, get_or, set, sym, refl, ap, ◌∙◌, subst, inl, inr, zero-add, arith, get_or-set_other, get_or-set_same}
+use Rattle.std.proofs.Common.{◌≡◌, ℕ, ◌+◌, ◌-◌, ◌<◌, ◌≤◌, true, false, ◌&&◌, ◌≢◌, List, [], ◌∷◌, ◌++◌, length, get_or, set, sym, refl, ap, ◌∙◌, subst, inl, inr, zero-add, arith, get_or-set_other, get_or-set_same}
 use mathlib.Core.Path.{fun_ext}
 use Rattle.std.proofs.lemmas.Bool.{cases_eq, or_left}
 use Rattle.positions.specs.Memory.{Work, member}
 use Rattle.grammar.specs.File.{RuleText}
-use Rattle.rows.specs.Sets.{Set, some, empty}
+use Rattle.rows.specs.Sets.{Set, empty}
 use Rattle.rows.specs.Automaton.{leads}
 use Rattle.rows.specs.Numbering.{stored, number, meet, meet_all, leads_from}
 use Rattle.rows.specs.Theorems.{Known}
-use Rattle.rows.proofs.Members.{empty_from}
+use Rattle.rows.proofs.Members.{some_false, empty_from}
 use Rattle.rows.proofs.Meeting.{Front, front_length, front_known, number_append, number_empty, meet_front, meet_all_append, meet_all_front, leads_from_append}
 use Rattle.loading.specs.declared.Lead.{Lead}
 use Rattle.loading.specs.Machine.{members, behind_of, leads_in, Machine}
@@ -47,13 +47,9 @@ pub record Entering (m : Work) (rs : List Set) (s : Set) (w : Work) (l : Lead) (
   pub led : Led m (rows_of w l.count) l
   pub entered : (qs : List RuleText) (n : ℕ) → Machine m n qs → Entered qs rs s b (rows_of w l.count) next
 
-pub none_some : (n : ℕ) (f : ℕ → Bool) → ((p : ℕ) → f p ≡ false) → some n f ≡ false
-none_some zero f h = refl
-none_some (suc n) f h = rw (h n) (none_some n f h)
-
 nowhere_empty : (m : Work) (live : Set) → ((p : ℕ) → live p ≡ false) → empty (behind_of m live) ≡ true
 unfolding behind_of
-nowhere_empty m live h = empty_from (behind_of m live) (λ t lt. none_some 512 (λ p. live p && member m (512 + p) t) (λ p. rw (h p)))
+nowhere_empty m live h = empty_from (behind_of m live) (λ t lt. some_false 512 (λ p. live p && member m (512 + p) t) (λ p small. rw (h p)))
 
 pub entering_start : (m : Work) (s : Set) (w : Work) (n : ℕ) (l : Lead) (next : List ℕ) → Stored w n → l.count ≡ n → l.number ≡ 0 → ((p : ℕ) → members l.live p ≡ false)
     → Entering m (rows_of w n) s w l next 0

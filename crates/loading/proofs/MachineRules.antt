@@ -19,6 +19,7 @@ use Rattle.rulefile.proofs.Rules.{laid_kept}
 use Rattle.rows.specs.Sets.{Set, some}
 use Rattle.rows.specs.Automaton as automaton
 use Rattle.rows.specs.Automaton.{after, live, start_set, trail_set, end_mark, slash_mark, leads}
+use Rattle.rows.proofs.Members.{some_both}
 use Rattle.table.specs.Memory.{rule_at}
 use Rattle.loading.specs.Machine.{behind_of, live_in, leads_in, live_at, start_in, first_set, Machine}
 
@@ -105,11 +106,6 @@ rule_sets w (q ∷ qs) j a k (suc i) l lt e =
     let sets = rule_sets w qs (suc j) (a + rule_size q) k i l.1 (omega arith) (omega arith) in
     record { firsts = sets.firsts; trails = sets.trails; ends = sets.ends; slashes = sets.slashes }
 
--- tests that are one below n
-some_same : (n : ℕ) (f g : ℕ → Bool) → ((p : ℕ) → p < n → f p ≡ g p) → some n f ≡ some n g
-some_same zero f g h = refl
-some_same (suc n) f g h = rw (h n (omega arith), some_same n f g (λ p lt. h p (omega arith))) refl
-
 swap : (a b c : Bool) → (a || (b || c)) ≡ (b || (a || c))
 swap true true c = refl
 swap true false c = refl
@@ -144,7 +140,7 @@ module _ (w m : Work) (n : ℕ) (qs : List RuleText) (l : RulesLaid w 0 0 qs) (a
 
     leading : (s : Set) (b t : ℕ) → b < 256 → leads_in m s b t ≡ leads qs s b t
     unfolding behind_of leads
-    leading s b t h = some_same 512 (λ p. live_in m s b p && member m (512 + p) t) (λ p. s p && (automaton.takes qs 0 p b && after qs 0 p t)) (λ p lt. led s b t p h)
+    leading s b t h = some_both 512 (λ p. live_in m s b p && member m (512 + p) t) (λ p. s p && (automaton.takes qs 0 p b && after qs 0 p t)) (λ p lt. led s b t p h)
 
     pub machine : Machine m (length qs) qs
     machine = record {
@@ -174,7 +170,7 @@ starts m l n c line s qs k h is = fun_ext (λ t. is t ∙ at t)
     at : (t : ℕ) → start_in m l n c line t ≡ start_set qs 0 c line t
     at t =
         rw (← k.count) (
-        some_same (length qs) (λ i. live_at (rule_at l i) c line && member m (1024 + i) t) (λ i. live_at (rule_at l i) c line && first_set qs 0 i t)
+        some_both (length qs) (λ i. live_at (rule_at l i) c line && member m (1024 + i) t) (λ i. live_at (rule_at l i) c line && first_set qs 0 i t)
         (λ i lt. ap (λ (f : Set). live_at (rule_at l i) c line && f t) (k.firsts i (omega (arith, k.count))))
         ∙ started l.rules qs 0 c t line h
         )

@@ -2,7 +2,7 @@
 use Rattle.std.proofs.Common.{◌≡◌, ℕ, zero, suc, ◌+◌, ◌-◌, ◌^◌, ◌<◌, ◌≤◌, Bool, true, false, not, cond, ◌&&◌, ◌||◌, ltb, List, length, set, sym, refl, ◌∙◌, inl, inr, arith, add-one}
 use mathlib.Core.Bool.{or_comm}
 use lib.Bits.{bit_or}
-use Rattle.std.proofs.lemmas.Bool.{cases_eq, cases_lt, or_right, or_left, and_left, and_from, and_parts, or_from}
+use Rattle.std.proofs.lemmas.Bool.{cases_eq, cases_lt, and_left, and_parts}
 use Rattle.std.proofs.lemmas.Bool.Decides.{nat_tests}
 use Rattle.std.proofs.lemmas.Nat.{or_lt}
 use Rattle.std.proofs.Math.Pow.{pow-lt}
@@ -13,6 +13,7 @@ use Rattle.positions.specs.Memory.{Work, member, between}
 use Rattle.positions.proofs.Sets.{member_set, between_in, between_below}
 use Rattle.rows.specs.Sets.{Set, some}
 use Rattle.rows.specs.Automaton.{meets}
+use Rattle.rows.proofs.Members.{meets_from, meets_false}
 use Rattle.loading.specs.Machine.{behind_of}
 
 -- one more set of takers
@@ -49,25 +50,6 @@ some_below n (suc m) test h none = elim (cases_eq n (suc m)) [
   | inl e ↦ rw e
   | inr ne ↦ rw (none m (omega arith) (omega arith)) (some_below n m test (omega arith) (λ p l k. none p l (omega arith)))
 ]
-
-pub some_true : (n : ℕ) (test : ℕ → Bool) (p : ℕ) → p < n → test p ≡ true → some n test ≡ true
-some_true zero test p h t = absurd (omega arith)
-some_true (suc n) test p h t = elim (cases_eq p n) [
-  | inl e ↦ or_left (test n) (some n test) (rw e at t)
-  | inr ne ↦ or_right (test n) (some n test) (some_true n test p (omega arith) t)
-]
-
-pub some_false : (n : ℕ) (test : ℕ → Bool) → ((p : ℕ) → p < n → test p ≡ false) → some n test ≡ false
-some_false zero test none = refl
-some_false (suc n) test none = or_from (test n) (some n test) (none n (omega arith)) (some_false n test (λ p h. none p (omega arith)))
-
-pub meets_true : (s t : Set) (p : ℕ) → p < 512 → s p ≡ true → t p ≡ true → meets s t ≡ true
-unfolding meets
-meets_true s t p h a b = some_true 512 (λ q. s q && t q) p h (and_from (s p) (t p) a b)
-
-pub meets_false : (s t : Set) → ((p : ℕ) → (s p && t p) ≡ false) → meets s t ≡ false
-unfolding meets
-meets_false s t none = some_false 512 (λ q. s q && t q) (λ p h. none p)
 
 -- members lie below 512
 pub member_below : (ws : List ℕ) (p : ℕ) → length ws ≡ 8 → has ws p ≡ true → p < 512
@@ -117,8 +99,8 @@ behind_next m s from p t h at none =
 pub shared : (ws vs both : List ℕ) (e : Bool) → length both ≡ 8 → ((j : ℕ) → has both j ≡ (has ws j && has vs j))
     → ((e ≡ true → (j : ℕ) → has both j ≡ false) × (e ≡ false → (j : ℕ) × (has both j ≡ true)))
     → not e ≡ meets (has ws) (has vs)
-shared ws vs both true long in_both h = sym (meets_false (has ws) (has vs) (λ p. sym (in_both p) ∙ h.0 refl p))
+shared ws vs both true long in_both h = sym (meets_false (has ws) (has vs) (λ p lt. sym (in_both p) ∙ h.0 refl p))
 shared ws vs both false long in_both h =
     let some = h.1 refl in
     let two = and_parts (has ws some.0) (has vs some.0) (sym (in_both some.0) ∙ some.1) in
-    sym (meets_true (has ws) (has vs) some.0 (member_below both some.0 long some.1) two.0 two.1)
+    sym (meets_from (has ws) (has vs) some.0 (member_below both some.0 long some.1) two.0 two.1)

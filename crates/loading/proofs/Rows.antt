@@ -7,12 +7,12 @@ use Rattle.grammar.specs.File.{RuleText, rule_size}
 use Rattle.loaded.specs.declared.Row.{Row}
 use Rattle.rows.specs.Sets.{Set}
 use Rattle.rows.specs.Automaton.{end_mark, slash_mark, meets}
+use Rattle.rows.proofs.Members.{meets_false}
 use Rattle.loading.specs.Machine.{set_at, Machine}
 use Rattle.loading.specs.Building.{rows_of, Entered, Enters, RowWritten, WritesRow}
-use Rattle.loading.proofs.Entering.{none_some}
 
 -- a rule past the last has no marks
-end_past : (qs : List RuleText) (a i p : ℕ) → length qs ≤ i → end_mark qs a i p ≡ false
+pub end_past : (qs : List RuleText) (a i p : ℕ) → length qs ≤ i → end_mark qs a i p ≡ false
 end_past [] a i p h = refl
 end_past (q ∷ qs) a zero p h = absurd (omega arith)
 end_past (q ∷ qs) a (suc i) p h = end_past qs (a + rule_size q) i p (omega arith)
@@ -22,14 +22,10 @@ slash_past [] a i p h = refl
 slash_past (q ∷ qs) a zero p h = absurd (omega arith)
 slash_past (q ∷ qs) a (suc i) p h = slash_past qs (a + rule_size q) i p (omega arith)
 
-meets_none : (s m : Set) → ((p : ℕ) → m p ≡ false) → meets s m ≡ false
-unfolding meets
-meets_none s m h = none_some 512 (λ p. s p && m p) (λ p. and_right (s p) (m p) (h p))
-
 mark_is : (s : Set) (at mark : ℕ → Set) (n : ℕ) → ((i : ℕ) → i < n → at i ≡ mark i) → ((i p : ℕ) → n ≤ i → mark i p ≡ false) → (i : ℕ) → (ltb i n && meets s (at i)) ≡ meets s (mark i)
 mark_is s at mark n f g i = elim (cases_lt i n) [
   | inl lt ↦ rw (lt-ltb i n lt) (ap (meets s) (f i lt))
-  | inr past ↦ rw (le-ltb i n past) (sym (meets_none s (mark i) (λ p. g i p past)))
+  | inr past ↦ rw (le-ltb i n past) (sym (meets_false s (mark i) (λ p lt. and_right (s p) (mark i p) (g i p past))))
 ]
 
 pub row_written : (m : Work) (qs : List RuleText) (n : ℕ) (rs : List Set) (s : Set) (us : List Set) (r : Row) → Machine m n qs → Entered qs rs s 256 us r.next → length r.next ≡ 256

@@ -1,8 +1,6 @@
 -- Bytes lead from a set along the paths that spell them.
-use Rattle.std.proofs.Common.{◌≡◌, ℕ, ◌≤◌, true, ◌↔◌, List, [], ◌∷◌, arith}
-use Rattle.grammar.specs.File.{RuleText, all_positions}
-use Rattle.rows.specs.Sets.{Set}
-use Rattle.reached.specs.Reached.{reached, LeadAlongPaths}
+use Rattle.std.proofs.Common.{[], ◌∷◌, arith}
+use Rattle.reached.specs.Reached.{LeadAlongPaths}
 use Rattle.reached.proofs.Steps.{to_path, from_path}
 use Rattle.reached.proofs.Parts.{takes_lie}
 

@@ -10,8 +10,9 @@ use Rattle.grammar.specs.File.{RuleText, rule_size, all_positions}
 use Rattle.rulefile.specs.Machine.{slash, pattern_takes, pattern_after}
 use Rattle.rows.specs.Sets.{Set}
 use Rattle.rows.specs.Automaton.{after, live, start_set, trail_set, end_mark, slash_mark, meets}
+use Rattle.rows.proofs.Members.{meets_found, meets_from}
 use Rattle.reached.specs.Reached.{reached, RowsTell, Headed, Slashed}
-use Rattle.reached.proofs.Steps.{meets_true, meets_from, to_path, from_path}
+use Rattle.reached.proofs.Steps.{to_path, from_path}
 use Rattle.reached.proofs.Patterns.{confine, slash_is, slash_some, slash_in, pattern_takes_in, pattern_after_in}
 use Rattle.reached.proofs.Spelled.{Spelled, end_spelled, slash_spelled, trail_empty, trail_spelled}
 use Rattle.reached.proofs.Parts.{Lies, lies, takes_lie}
@@ -40,7 +41,7 @@ module _ (rules : List RuleText) (small : all_positions rules ≤ 512) (i : ℕ)
   module _ (mark : Set) (m : ℕ) (one : Alone mark m) where
     -- it is met where it is a member
     met_member : (s : Set) → meets s mark ≡ true → s m ≡ true
-    met_member s h = let k = meets_true s mark h in let z : k.0 ≡ m = eqb-true k.0 m (sym (one.1 k.0) ∙ k.2) in rw z at k.1
+    met_member s h = let k = meets_found s mark h in let z : k.0 ≡ m = eqb-true k.0 m (sym (one.1 k.0) ∙ k.2) in rw z at k.1
 
     member_met : (s : Set) → s m ≡ true → meets s mark ≡ true
     member_met s h = meets_from s mark m (omega (arith, one.0, l.within)) h (one.1 m ∙ eq-eqb m m refl)
@@ -94,7 +95,7 @@ module _ (rules : List RuleText) (small : all_positions rules ≤ 512) (i : ℕ)
   -- a slash mark that is met is there
   slash_there : (t : Set) → meets t (slash_mark rules 0 i) ≡ true → IsSome q.trailing
   slash_there t h =
-      let k = meets_true t (slash_mark rules 0 i) h in
+      let k = meets_found t (slash_mark rules 0 i) h in
       slash_some q.trailing (slash q.expression e) k.0 (sym (l.slash_same k.0) ∙ k.2)
 
   slashes :

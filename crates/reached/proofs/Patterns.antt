@@ -4,15 +4,10 @@ use Rattle.std.proofs.lemmas.Bool.{or_cases, or_left, or_right, and_parts, and_f
 use Rattle.patterns.specs.Expression.{Expression}
 use Rattle.patterns.specs.Positions.{size, nullable, takes, first, last, follows}
 use Rattle.patterns.specs.Paths.{Path, stop, go, Within, Reads}
-use Rattle.patterns.proofs.Paths.{widen, restrict}
+use Rattle.patterns.proofs.Paths.{begins, widen, restrict}
 use Rattle.patterns.proofs.Ranges.{In, takes_in, first_in, last_in, follows_in}
 use Rattle.grammar.specs.File.{trailing_size}
 use Rattle.rulefile.specs.Machine.{slash, slash_of, trail_takes, pattern_takes, pattern_after, trail_start, behind_last, trail_after, pattern_size}
-
--- a path begins with a position that takes a byte
-pub begins : {T F : ℕ → ℕ → Bool} {E : ℕ → Bool} {p : ℕ} {s : List ℕ} → Path T F E p s → (b : ℕ) × (T p b ≡ true)
-begins (stop {b = b} t e) = (b, t)
-begins (go {b = b} q t f w) = (b, t)
 
 -- a path that ends in I, into which nothing else leads, lies in I
 pub confine :

@@ -5,12 +5,13 @@ use Rattle.std.proofs.lemmas.Bool.{or_cases, or_left, or_right, and_parts, and_f
 use Rattle.patterns.specs.Expression.{Expression, Has}
 use Rattle.patterns.specs.Positions.{nullable, first}
 use Rattle.patterns.specs.Paths.{Path, Within, Reads}
+use Rattle.patterns.proofs.Paths.{begins}
 use Rattle.patterns.proofs.Sound.{has_read}
 use Rattle.patterns.proofs.Complete.{read_has}
 use Rattle.patterns.proofs.Ranges.{first_in}
 use Rattle.rulefile.specs.Machine.{slash, pattern_takes, pattern_after, trail_start}
 use Rattle.listings.specs.Listing.{Splits}
-use Rattle.reached.proofs.Patterns.{d, After, Taken, begins, alone_path, path_alone, slash_path, path_slash, no_byte, trail_path, path_trail, split, joined}
+use Rattle.reached.proofs.Patterns.{d, After, Taken, alone_path, path_alone, slash_path, path_slash, no_byte, trail_path, path_trail, split, joined}
 
 -- a path from a start to the mark m
 abbrev pub Spelled : (ℕ → Bool) → (ℕ → ℕ → Bool) → (ℕ → ℕ → Bool) → ℕ → List ℕ → Type 0

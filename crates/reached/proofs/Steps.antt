@@ -1,41 +1,19 @@
 -- Where bytes lead from a set: to what comes after the last position of a path from one of its members.
-use Rattle.std.proofs.Common.{◌≡◌, ℕ, zero, suc, ◌<◌, Bool, true, ◌&&◌, List, [], ◌∷◌, inl, inr, arith}
-use Rattle.std.proofs.lemmas.Bool.{or_cases, or_left, or_right, and_parts, and_from, cases_eq, false≢true}
+use Rattle.std.proofs.Common.{◌≡◌, ℕ, ◌<◌, true, ◌&&◌, List, [], ◌∷◌}
+use Rattle.std.proofs.lemmas.Bool.{and_parts, and_from}
 use Rattle.patterns.specs.Paths.{Path, stop, go}
 use Rattle.grammar.specs.File.{RuleText}
-use Rattle.rows.specs.Sets.{Set, some}
-use Rattle.rows.specs.Automaton.{takes, after, leads, meets}
+use Rattle.rows.specs.Sets.{Set}
+use Rattle.rows.specs.Automaton.{takes, after, leads}
+use Rattle.rows.proofs.Members.{some_found, some_from}
 use Rattle.reached.specs.Reached.{reached}
-
--- some number passes, where one below n does, and the other way
-some_true : (n : ℕ) (test : ℕ → Bool) → some n test ≡ true → (p : ℕ) × (test p ≡ true)
-some_true zero test h = absurd (false≢true h)
-some_true (suc n) test h = elim (or_cases (test n) (some n test) h) [ inl k ↦ (n, k) | inr k ↦ some_true n test k ]
-
-some_from : (n p : ℕ) (test : ℕ → Bool) → p < n → test p ≡ true → some n test ≡ true
-some_from zero p test lt h = absurd (omega arith)
-some_from (suc n) p test lt h = elim (cases_eq p n) [
-  | inl e ↦ or_left (test n) (some n test) (rw e at h)
-  | inr ne ↦ or_right (test n) (some n test) (some_from n p test (omega arith) h)
-]
-
--- a mark in a set
-pub meets_true : (s m : Set) → meets s m ≡ true → (p : ℕ) × (s p ≡ true) × (m p ≡ true)
-unfolding meets
-meets_true s m h =
-    let r = some_true 512 (λ p. s p && m p) h in
-    let k = and_parts (s r.0) (m r.0) r.1 in (r.0, k.0, k.1)
-
-pub meets_from : (s m : Set) (p : ℕ) → p < 512 → s p ≡ true → m p ≡ true → meets s m ≡ true
-unfolding meets
-meets_from s m p lt h k = some_from 512 p (λ q. s q && m q) lt (and_from (s p) (m p) h k)
 
 module _ (rules : List RuleText) where
   -- a member of where a byte leads comes after a member that takes it
   leads_true : (s : Set) (b t : ℕ) → leads rules s b t ≡ true → (p : ℕ) × (s p ≡ true) × (takes rules 0 p b ≡ true) × (after rules 0 p t ≡ true)
   unfolding leads
   leads_true s b t h =
-      let r = some_true 512 (λ p. s p && (takes rules 0 p b && after rules 0 p t)) h in
+      let r = some_found 512 (λ p. s p && (takes rules 0 p b && after rules 0 p t)) h in
       let k = and_parts (s r.0) (takes rules 0 r.0 b && after rules 0 r.0 t) r.1 in
       let j = and_parts (takes rules 0 r.0 b) (after rules 0 r.0 t) k.1 in (r.0, k.0, j.0, j.1)
 

@@ -1,10 +1,10 @@
--- Sets as their members: what `same` and `empty` say of them.
+-- Sets as their members: what `same`, `empty`, `some` and `meets` say of them.
 use Rattle.std.proofs.Common.{◌≡◌, ℕ, zero, suc, ◌<◌, Bool, true, false, not, ◌&&◌, List, sym, refl, ap, ◌∙◌, inl, inr, arith}
 use mathlib.Core.Bool.{beq}
-use Rattle.std.proofs.lemmas.Bool.{and_parts, and_from, cases_eq, not-true, not_from_false}
+use Rattle.std.proofs.lemmas.Bool.{or_cases, or_left, or_right, or_from, and_parts, and_from, cases_eq, not-true, not_from_false, false≢true}
 use Rattle.grammar.specs.File.{RuleText}
 use Rattle.rows.specs.Sets.{Set, some, each, empty, same}
-use Rattle.rows.specs.Automaton.{takes, after, leads}
+use Rattle.rows.specs.Automaton.{takes, after, leads, meets}
 
 pub each_true : (n : ℕ) (test : ℕ → Bool) → each n test ≡ true → (p : ℕ) → p < n → test p ≡ true
 each_true zero test h p lt = absurd (omega arith)
@@ -72,9 +72,41 @@ same_empty s t h = both_pass (empty s) (empty t)
     (λ k. empty_from t (λ p lt. sym (same_true s t h p lt) ∙ empty_true s k p lt))
     (λ k. empty_from s (λ p lt. same_true s t h p lt ∙ empty_true t k p lt))
 
-some_both : (n : ℕ) (f g : ℕ → Bool) → ((p : ℕ) → p < n → f p ≡ g p) → some n f ≡ some n g
+-- two tests that agree below n
+pub some_both : (n : ℕ) (f g : ℕ → Bool) → ((p : ℕ) → p < n → f p ≡ g p) → some n f ≡ some n g
 some_both zero f g h = refl
 some_both (suc n) f g h = rw (h n (omega arith), some_both n f g (λ p lt. h p (omega arith)))
+
+-- some number below n passes where one is found that does, and none does where each fails
+pub some_found : (n : ℕ) (test : ℕ → Bool) → some n test ≡ true → (p : ℕ) × (test p ≡ true)
+some_found zero test h = absurd (false≢true h)
+some_found (suc n) test h = elim (or_cases (test n) (some n test) h) [ inl k ↦ (n, k) | inr k ↦ some_found n test k ]
+
+pub some_from : (n p : ℕ) (test : ℕ → Bool) → p < n → test p ≡ true → some n test ≡ true
+some_from zero p test lt h = absurd (omega arith)
+some_from (suc n) p test lt h = elim (cases_eq p n) [
+  | inl e ↦ or_left (test n) (some n test) (rw e at h)
+  | inr ne ↦ or_right (test n) (some n test) (some_from n p test (omega arith) h)
+]
+
+pub some_false : (n : ℕ) (test : ℕ → Bool) → ((p : ℕ) → p < n → test p ≡ false) → some n test ≡ false
+some_false zero test none = refl
+some_false (suc n) test none = or_from (test n) (some n test) (none n (omega arith)) (some_false n test (λ p lt. none p (omega arith)))
+
+-- a mark in a set
+pub meets_found : (s m : Set) → meets s m ≡ true → (p : ℕ) × (s p ≡ true) × (m p ≡ true)
+unfolding meets
+meets_found s m h =
+    let r = some_found 512 (λ p. s p && m p) h in
+    let k = and_parts (s r.0) (m r.0) r.1 in (r.0, k.0, k.1)
+
+pub meets_from : (s m : Set) (p : ℕ) → p < 512 → s p ≡ true → m p ≡ true → meets s m ≡ true
+unfolding meets
+meets_from s m p lt h k = some_from 512 p (λ q. s q && m q) lt (and_from (s p) (m p) h k)
+
+pub meets_false : (s m : Set) → ((p : ℕ) → p < 512 → (s p && m p) ≡ false) → meets s m ≡ false
+unfolding meets
+meets_false s m none = some_false 512 (λ p. s p && m p) none
 
 leads_both : (qs : List RuleText) (s t : Set) (b q : ℕ) → same s t ≡ true → leads qs s b q ≡ leads qs t b q
 unfolding leads
