@@ -6,12 +6,11 @@
 use anyhow::{Context, bail};
 use bits::{Bits, PositionSet};
 use grammar::Fault;
-use loaded::{Loaded, Row};
-use loading::{MOST_ROWS, load};
+use loader::{Counts, MOST_ROWS, WORK_SETS, load, read_rules};
 use report::{Caret, ShownLine, locate};
-use rulefile::{Counts, WORK_SETS, read_rules};
 use std::io::ErrorKind;
 use std::{env, fs};
+use table::{Loaded, Row};
 
 // The bytes of rules.l; a file that is not there counts as empty.
 fn rules_file(rt: &HostRuntime) -> anyhow::Result<Vec<u8>> {

@@ -11,6 +11,8 @@ ghost use Rattle.expressions.specs.Frames.{Plain, Marked, Forms, Copies};
 ghost use Rattle.expressions.specs.Lays.{Lays, Gives, Steps, Moves};
 ghost use Rattle.expressions.specs.Reads.{Repeating, Counted, JoinsOn, MarksOn, goes_on, interval_over, Expressed};
 
+mod intervals;
+
 use bits::{Bits, ByteSet, PositionSet};
 use brackets::{bracket, element, escape};
 use grammar::{Fault, Interval, Read, Refusal, misfit, refused};

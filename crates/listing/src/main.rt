@@ -6,15 +6,13 @@
 
 use anyhow::{Context, bail};
 use bits::{Bits, PositionSet};
-use loaded::{Loaded, Row};
-use loading::{MOST_ROWS, load};
+use loader::{MOST_ROWS, WORK_SETS, load};
 use readings::readings;
-use rulefile::WORK_SETS;
 use scan::Start;
+use source::Sheet;
 use std::io::ErrorKind;
 use std::{env, fs};
-use table::take_up;
-use texts::Sheet;
+use table::{Loaded, Row, take_up};
 
 // Where the listing is asked for.
 #[derive(Clone, Copy)]

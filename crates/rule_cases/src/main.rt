@@ -11,15 +11,13 @@ mod escaped;
 
 use escaped::decode;
 use grammar::Fault;
-use loaded::{Loaded, Row};
-use loading::{MOST_ROWS, load};
+use loader::{Counts, MOST_ROWS, WORK_SETS, load, read_rules};
 use readings::readings;
-use rulefile::{Counts, WORK_SETS, read_rules};
 use scan::Start;
+use source::Sheet;
 use std::fs;
 use std::str::Split;
-use table::take_up;
-use texts::Sheet;
+use table::{Loaded, Row, take_up};
 
 // How much a rule file has, and how many rows. Loading alone does not tell its positions.
 fn sizes(

@@ -2,11 +2,11 @@
 use Rattle.std.proofs.Common.{◌≡◌, ℕ, zero, suc, ◌≤◌, ◌<◌, Bool, true, false, cond, eqb, ◌≢◌, List, [], ◌∷◌, length, min, None, Option, slice_get, sym, refl, ap, ◌∙◌, arith, lt-ltb, ne_eqb}
 use Rattle.std.specs.List.{find}
 use Rattle.std.specs.Option.{option_or}
-use Rattle.loaded.specs.declared.Row.{Row}
-use Rattle.loaded.specs.declared.Loaded.{Loaded}
-use Rattle.listings.specs.declared.Reading.{Reading}
-use Rattle.listings.specs.Listing.{Place, last_resort}
-use Rattle.listings.specs.Order.{comes_after, first_of, next_of}
+use Rattle.table.specs.declared.loaded.Row.{Row}
+use Rattle.table.specs.declared.loaded.Loaded.{Loaded}
+use Rattle.places.specs.declared.Reading.{Reading}
+use Rattle.places.specs.Listing.{Place, last_resort}
+use Rattle.places.specs.Order.{comes_after, first_of, next_of}
 use Rattle.scan.specs.declared.Behind.{Behind}
 use Rattle.scan.specs.Listed.{ended}
 use Rattle.scan.specs.Listing.{reading, of_total, up_to, table_listing}

@@ -3,11 +3,11 @@ use Rattle.std.proofs.Common.{◌≡◌, ℕ, ◌+◌, ◌-◌, ◌<◌, ◌≤�
 use lib.Seq.{take-add}
 use Rattle.std.proofs.lemmas.List.{take_more}
 use Rattle.std.proofs.lemmas.Option.{slice_get-get_or}
-use Rattle.loaded.specs.declared.Row.{Row}
+use Rattle.table.specs.declared.loaded.Row.{Row}
 use Rattle.bits.specs.Set.{bit}
 use Rattle.bits.proofs.Words.{bit_zero}
 use Rattle.table.specs.Readings.{next_row, end_marks, slash_marks}
-use Rattle.texts.specs.Reach.{seen_of, byte_at}
+use Rattle.source.specs.Reach.{seen_of, byte_at}
 use Rattle.scan.specs.Listed.{row_after}
 
 pub seen : (rest : List ℕ) (k : ℕ) → k < seen_of rest → byte_at rest k ≡ Some (get_or rest k 0)

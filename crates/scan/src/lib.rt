@@ -5,17 +5,17 @@ ghost use Rattle.std.specs.Prelude.{◌≡◌, ℕ, suc, ◌<◌, ◌≤◌, Mat
 ghost use Rattle.std.specs.Option.{option_map};
 ghost use Rattle.bits.specs.Set.{bit, has, FirstBit};
 ghost use Rattle.table.specs.Readings.{next_row, end_marks, slash_marks};
-ghost use Rattle.texts.specs.Reach.{seen_of};
-ghost use Rattle.listings.specs.Listing.{last_resort};
-ghost use Rattle.listings.specs.Order.{first_of, next_of};
+ghost use Rattle.source.specs.Reach.{seen_of};
+ghost use Rattle.places.specs.Listing.{last_resort};
+ghost use Rattle.places.specs.Order.{first_of, next_of};
 ghost use Rattle.scan.specs.Listed.{row_after, row_at_place};
 ghost use Rattle.scan.specs.Listing.{place_of, head_of, up_to, table_listing, TableLists};
 ghost use Rattle.scan.specs.Seeking.{stands_behind, reading_at};
 
 use bits::Bits;
-use listings::Reading;
+use places::Reading;
+use source::Source;
 use table::Table;
-use texts::Text;
 
 // No reading has more bytes.
 const MOST: usize = 1024;
@@ -55,14 +55,14 @@ struct End {
 }
 
 // The first of what the table lists at the place.
-pub fn first_reading<T: Text>(table: &Table, start: Start, text: &T) -> Option<Reading>
+pub fn first_reading<T: Source>(table: &Table, start: Start, text: &T) -> Option<Reading>
     ensures { result ≡ first_of (table_listing table.now.loaded table.now.rows.now (place_of start (T.rest text.now))) }
 {
     reading_behind(table, start, text, ALL).or(single(text))
 }
 
 // The first that is listed behind the reading of this rule and total.
-pub fn reading_after<T: Text>(
+pub fn reading_after<T: Source>(
     table: &Table,
     start: Start,
     text: &T,
@@ -78,14 +78,19 @@ pub fn reading_after<T: Text>(
 }
 
 // The single byte, where one is left.
-fn single<T: Text>(text: &T) -> Option<Reading>
+fn single<T: Source>(text: &T) -> Option<Reading>
     ensures { result ≡ first_of (last_resort (T.rest text.now)) }
 {
     (text.left() > 0).then_some(SINGLE)
 }
 
 // The first reading of a rule that stands behind this one.
-fn reading_behind<T: Text>(table: &Table, start: Start, text: &T, behind: Behind) -> Option<Reading>
+fn reading_behind<T: Source>(
+    table: &Table,
+    start: Start,
+    text: &T,
+    behind: Behind,
+) -> Option<Reading>
     ensures { let p = place_of start (T.rest text.now) in result ≡ find (stands_behind behind) (up_to table.now.loaded table.now.rows.now p (min 1024 (length p.rest))) }
 {
     let end = end_behind(table, start, text, behind)?;
@@ -97,7 +102,7 @@ fn reading_behind<T: Text>(table: &Table, start: Start, text: &T, behind: Behind
 }
 
 // Where it ends: one pass, up to the row from which nothing goes on.
-fn end_behind<T: Text>(table: &Table, start: Start, text: &T, behind: Behind) -> Option<End>
+fn end_behind<T: Source>(table: &Table, start: Start, text: &T, behind: Behind) -> Option<End>
     ensures first { let p = place_of start (T.rest text.now) in option_map (reading_at table.now.loaded table.now.rows.now p) result ≡ find (stands_behind behind) (up_to table.now.loaded table.now.rows.now p (min 1024 (length p.rest))) }
     ensures within { MatchOption result (Unit {0}) (λ e. (e.rule < 64) × (e.total ≤ 1024) × (e.total ≤ length (T.rest text.now))) }
 {
@@ -123,7 +128,7 @@ fn end_behind<T: Text>(table: &Table, start: Start, text: &T, behind: Behind) ->
 }
 
 // The head of the reading that ends there: the longest that its marks allow, and all of it where they allow none.
-fn head<T: Text>(table: &Table, start: Start, text: &T, end: End) -> usize
+fn head<T: Source>(table: &Table, start: Start, text: &T, end: End) -> usize
     requires rule { end.rule < 64 }
     requires most { end.total ≤ 1024 }
     requires within { end.total ≤ length (T.rest text.now) }
@@ -144,7 +149,7 @@ fn head<T: Text>(table: &Table, start: Start, text: &T, end: End) -> usize
 }
 
 // The heads after which the slash mark of the rule stands in the row, in one pass.
-fn slashed_heads<T: Text>(table: &Table, start: Start, text: &T, end: End) -> Bits<17>
+fn slashed_heads<T: Source>(table: &Table, start: Start, text: &T, end: End) -> Bits<17>
     requires rule { end.rule < 64 }
     requires most { end.total ≤ 1024 }
     requires within { end.total ≤ length (T.rest text.now) }
@@ -163,7 +168,7 @@ fn slashed_heads<T: Text>(table: &Table, start: Start, text: &T, end: End) -> Bi
 }
 
 // Whether the bytes from h on are a trailing part of the rule, by its end mark in the row that they lead to.
-fn is_trailing<T: Text>(table: &Table, trail: u16, text: &T, h: usize, end: End) -> bool
+fn is_trailing<T: Source>(table: &Table, trail: u16, text: &T, h: usize, end: End) -> bool
     requires rule { end.rule < 64 }
     requires most { end.total ≤ 1024 }
     requires within { end.total ≤ length (T.rest text.now) }
@@ -182,7 +187,7 @@ fn is_trailing<T: Text>(table: &Table, trail: u16, text: &T, h: usize, end: End)
 
 // The row that byte k of the text leads to.
 #[tactic(auto, using(crate::proofs::Steps::seen))]
-fn step<T: Text>(table: &Table, row: u16, text: &T, k: usize) -> u16
+fn step<T: Source>(table: &Table, row: u16, text: &T, k: usize) -> u16
     requires { k < seen_of (T.rest text.now) }
     ensures { result ≡ next_row table.now.rows.now row (slice_index (T.rest text.now) k) }
 {

@@ -3,10 +3,10 @@ use Rattle.std.specs.Prelude.{◌≡◌, ℕ, ◌^◌, ◌<◌, ◌≤◌, Bool,
 use Rattle.bits.specs.Set.{has}
 use Rattle.grammar.specs.declared.Step.{Step}
 use Rattle.grammar.specs.declared.Step.TheVariants.{Begin}
-use Rattle.loaded.specs.declared.Row.{Row}
-use Rattle.loaded.specs.declared.Rule.{Rule}
-use Rattle.loaded.specs.declared.Start.{Start}
-use Rattle.loaded.specs.declared.Loaded.{Loaded}
+use Rattle.table.specs.declared.loaded.Row.{Row}
+use Rattle.table.specs.declared.loaded.Rule.{Rule}
+use Rattle.table.specs.declared.loaded.StartRows.{StartRows}
+use Rattle.table.specs.declared.loaded.Loaded.{Loaded}
 
 -- the row, the rule and the start rows at an index from 0; zeros past the end
 abbrev pub row_at : List Row → ℕ → Row
@@ -15,7 +15,7 @@ row_at rs k = slice_index_or rs k record { next = []; ends = 0; slashes = 0 }
 abbrev pub rule_at : Loaded → ℕ → Rule
 rule_at l i = slice_index_or l.rules i record { conditions = record { words = [] }; anchored = false; trail = 0; steps = [] }
 
-abbrev pub start_at : Loaded → ℕ → Start
+abbrev pub start_at : Loaded → ℕ → StartRows
 start_at l c = slice_index_or l.starts c record { inside = 0; at_line_start = 0 }
 
 -- the counts fit the memory, which has n rows, and INITIAL is always there
@@ -23,7 +23,7 @@ abbrev pub CountsFit : Loaded → ℕ → Type 0
 CountsFit l n = (l.row_count ≤ n) × (l.rule_count ≤ 64) × (1 ≤ l.condition_count) × (l.condition_count ≤ 8)
 
 -- each start row is one of n rows, or 0
-abbrev pub StartIn : ℕ → Start → Type 0
+abbrev pub StartIn : ℕ → StartRows → Type 0
 StartIn n s = (s.inside ≤ n) × (s.at_line_start ≤ n)
 
 abbrev pub StartsIn : Loaded → Type 0
@@ -66,6 +66,6 @@ abbrev pub RulesBeginIn : Loaded → Type 0
 RulesBeginIn l = (i : ℕ) → i < 64 → BeginsIn l.condition_count (rule_at l i).steps
 
 -- l and rs name no row, rule or condition that they lack
-abbrev pub Whole : Loaded → List Row → Type 0
-Whole l rs =
+abbrev pub IsTable : Loaded → List Row → Type 0
+IsTable l rs =
     CountsFit l (length rs) × StartsIn l × TrailsIn l × RowsLeadIn l rs × MarksIn l rs × RulesActiveIn l × RulesBeginIn l

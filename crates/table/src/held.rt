@@ -1,11 +1,11 @@
 // A table that exists is whole: whoever follows its rows finds each row that one of them names.
 ghost use Rattle.std.specs.Prelude.{◌≡◌, ◌≤◌, [], length, take};
 ghost use Rattle.std.specs.Option.{option_copied};
-ghost use Rattle.table.specs.Memory.{Whole};
+ghost use Rattle.table.specs.Memory.{IsTable};
 ghost use Rattle.table.specs.Readings.{initial_only, numbered, start_row, next_row, end_marks, slash_marks, trail_row};
 
 use crate::check;
-use loaded::{Loaded, Row};
+use crate::loaded::{Loaded, Row};
 
 // Rows past the count are cut off. A row is named by its number, counted from 1. Where nothing goes on, `start`, `step` and
 // `trail` answer row 0, which stands for the empty set of positions, rather than None: a caller steps from it as from others.
@@ -13,14 +13,14 @@ use loaded::{Loaded, Row};
 pub struct Table<'a> {
     loaded: Loaded,
     rows: &'a [Row],
-    ghost whole: { Whole loaded rows.now },
+    ghost whole: { IsTable loaded rows.now },
     ghost exact: { length rows.now ≡ loaded.row_count },
 }
 
 // The table of this memory, or INITIAL without rules where the memory is no table's.
 pub fn take_up<'a>(loaded: &'a Loaded, rows: &'a [Row]) -> Table<'a>
-    ensures whole { Whole loaded.now rows.now → (result.loaded ≡ loaded.now) × (result.rows.now ≡ take loaded.now.row_count rows.now) }
-    ensures lacking { (Whole loaded.now rows.now → ⊥) → (result.loaded ≡ initial_only) × (result.rows.now ≡ []) }
+    ensures whole { IsTable loaded.now rows.now → (result.loaded ≡ loaded.now) × (result.rows.now ≡ take loaded.now.row_count rows.now) }
+    ensures lacking { (IsTable loaded.now rows.now → ⊥) → (result.loaded ≡ initial_only) × (result.rows.now ≡ []) }
 {
     match check(loaded, rows) {
         Ok(()) => whole(loaded, rows),
@@ -29,7 +29,7 @@ pub fn take_up<'a>(loaded: &'a Loaded, rows: &'a [Row]) -> Table<'a>
 }
 
 fn whole<'a>(loaded: &'a Loaded, rows: &'a [Row]) -> Table<'a>
-    requires { Whole loaded.now rows.now }
+    requires { IsTable loaded.now rows.now }
     ensures { (result.loaded ≡ loaded.now) × (result.rows.now ≡ take loaded.now.row_count rows.now) }
 {
     Table {
@@ -38,7 +38,7 @@ fn whole<'a>(loaded: &'a Loaded, rows: &'a [Row]) -> Table<'a>
     }
 }
 
-#[tactic(auto, unfolding(loaded::specs::Zeros::zeros))]
+#[tactic(auto, unfolding(crate::specs::Zeros::zeros))]
 fn initial<'a>() -> Table<'a>
     ensures { (result.loaded ≡ initial_only) × (result.rows.now ≡ []) }
 {

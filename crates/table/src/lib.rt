@@ -2,44 +2,45 @@
 #![tactic(auto)]
 
 ghost use Rattle.std.specs.Prelude.{◌≡◌, ◌^◌, ◌<◌, MatchBool, MatchResult};
-ghost use Rattle.table.specs.declared.NotWhole.TheVariants.{Lacking};
-ghost use Rattle.table.specs.Memory.{CountsFit, StartIn, StartsIn, TrailsIn, LeadsIn, RowsLeadIn, MarkedIn, MarksIn, ActiveIn, RulesActiveIn, step_in, BeginsIn, RulesBeginIn, Whole};
+ghost use Rattle.table.specs.declared.NotTable.TheVariants.{Lacking};
+ghost use Rattle.table.specs.Memory.{CountsFit, StartIn, StartsIn, TrailsIn, LeadsIn, RowsLeadIn, MarkedIn, MarksIn, ActiveIn, RulesActiveIn, step_in, BeginsIn, RulesBeginIn, IsTable};
 
 pub mod held;
+pub mod loaded;
 
 use bits::ConditionSet;
 use grammar::Step;
 pub use held::{Table, take_up};
-use loaded::{Loaded, Row, Rule, Start};
+pub use loaded::{Loaded, Row, Rule, StartRows};
 
 // Why memory is no table's; the reason has its number.
 #[derive(Clone, Copy, PartialEq, Eq)]
-pub enum NotWhole {
+pub enum NotTable {
     Lacking = 9,
 }
 
 // The number that the reason is reported by.
-impl From<NotWhole> for u8 {
+impl From<NotTable> for u8 {
     ghost from_gives = { λ _ number. number ≡ 9 };
 
-    fn from(reason: NotWhole) -> u8 {
+    fn from(reason: NotTable) -> u8 {
         reason as u8
     }
 }
 
 // Whether memory is a table's, that is, whether it names only what it has.
-pub fn check(loaded: &Loaded, rows: &[Row]) -> Result<(), NotWhole>
-    ensures { MatchResult result (λ _. Whole loaded.now rows.now) (λ e. (e ≡ Lacking) × (Whole loaded.now rows.now → ⊥)) }
+pub fn check(loaded: &Loaded, rows: &[Row]) -> Result<(), NotTable>
+    ensures { MatchResult result (λ _. IsTable loaded.now rows.now) (λ e. (e ≡ Lacking) × (IsTable loaded.now rows.now → ⊥)) }
 {
     if is_whole(loaded, rows) {
         Ok(())
     } else {
-        Err(NotWhole::Lacking)
+        Err(NotTable::Lacking)
     }
 }
 
 fn is_whole(loaded: &Loaded, rows: &[Row]) -> bool
-    ensures { MatchBool result (Whole loaded.now rows.now) (Whole loaded.now rows.now → ⊥) }
+    ensures { MatchBool result (IsTable loaded.now rows.now) (IsTable loaded.now rows.now → ⊥) }
 {
     counts_fit(loaded, rows.len())
         && starts_in(loaded)
@@ -67,7 +68,7 @@ fn starts_in(loaded: &Loaded) -> bool
         .all(|start| start_in(start, loaded.row_count))
 }
 
-fn start_in(start: &Start, rows: usize) -> bool
+fn start_in(start: &StartRows, rows: usize) -> bool
     ensures { MatchBool result (StartIn rows start.now) (StartIn rows start.now → ⊥) }
 {
     start.inside as usize <= rows && start.at_line_start as usize <= rows
@@ -82,7 +83,7 @@ fn trails_in(loaded: &Loaded) -> bool
         .all(|rule| rule.trail as usize <= loaded.row_count)
 }
 
-// This and `marks_in`, `rules_active_in` and `rules_begin_in` stay four: each decides its own part of Whole, and one function
+// This and `marks_in`, `rules_active_in` and `rules_begin_in` stay four: each decides its own part of IsTable, and one function
 // over the test would take the same closures.
 fn rows_lead_in(loaded: &Loaded, rows: &[Row]) -> bool
     ensures { MatchBool result (RowsLeadIn loaded.now rows.now) (RowsLeadIn loaded.now rows.now → ⊥) }

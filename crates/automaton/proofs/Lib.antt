@@ -1,0 +1,12 @@
+pub mod Members
+pub mod Meeting
+pub mod Alike
+pub mod Rows
+pub mod Room
+pub mod Origins
+pub mod Steps
+pub mod Patterns
+pub mod Spelled
+pub mod Parts
+pub mod Marks
+pub mod Led

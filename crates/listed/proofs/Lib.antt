@@ -1,6 +1,0 @@
-pub mod Numbers
-pub mod Starts
-pub mod Heads
-pub mod Tables
-pub mod Calls
-pub mod Follows

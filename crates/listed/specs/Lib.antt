@@ -1,2 +1,0 @@
-pub mod Loaded
-pub mod Calls

@@ -1,0 +1,11 @@
+pub mod Load
+pub mod Machine
+pub mod Building
+pub mod Determined
+pub mod Laid
+pub mod Lines
+pub mod Marks
+pub mod Loaded
+pub mod Sections
+pub mod Shown
+pub mod TableLists

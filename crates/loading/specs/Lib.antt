@@ -1,4 +1,0 @@
-pub mod Load
-pub mod Machine
-pub mod Building
-pub mod Determined

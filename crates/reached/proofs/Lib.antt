@@ -1,6 +1,0 @@
-pub mod Steps
-pub mod Patterns
-pub mod Spelled
-pub mod Parts
-pub mod Marks
-pub mod Led

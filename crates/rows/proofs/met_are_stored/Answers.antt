@@ -1,5 +1,0 @@
-use Rattle.rows.proofs.Rows.{met_are_stored}
-use Rattle.rows.proofs.met_are_stored.Goals as goal
-
-pub returns : goal.returns
-returns c = met_are_stored

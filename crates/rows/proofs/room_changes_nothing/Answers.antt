@@ -1,5 +1,0 @@
-use Rattle.rows.proofs.Room.{room_changes_nothing}
-use Rattle.rows.proofs.room_changes_nothing.Goals as goal
-
-pub returns : goal.returns
-returns c = room_changes_nothing

@@ -1,5 +1,0 @@
-use Rattle.rows.proofs.Rows.{rows_distinct}
-use Rattle.rows.proofs.rows_are_distinct.Goals as goal
-
-pub returns : goal.returns
-returns c = rows_distinct

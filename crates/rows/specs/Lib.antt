@@ -1,4 +1,0 @@
-pub mod Sets
-pub mod Automaton
-pub mod Numbering
-pub mod Theorems

@@ -1,8 +1,0 @@
--- What is shown of a right file: how much it has, in numbers and words.
-use Rattle.std.specs.Prelude.{ℕ, List, ◌++◌, codes}
-use Rattle.std.specs.Fmt.{decimal}
-use Rattle.rulefile.specs.declared.Counts.{Counts}
-
-abbrev pub shown : Counts → List ℕ
-shown c =
-    decimal c.rules ++ codes " rules, " ++ decimal c.conditions ++ codes " conditions, " ++ decimal c.positions ++ codes " positions"
