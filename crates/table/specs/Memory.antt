@@ -8,6 +8,18 @@ use Rattle.table.specs.declared.loaded.Rule.{Rule}
 use Rattle.table.specs.declared.loaded.StartRows.{StartRows}
 use Rattle.table.specs.declared.loaded.Loaded.{Loaded}
 
+-- what is loaded: the loaded memory, and the rows
+pub record Memory : Type 0 where
+  pub loaded : Loaded
+  pub rows : List Row
+
+abbrev pub memory : Loaded → List Row → Memory
+memory l rs = record { loaded = l; rows = rs }
+
+-- the row that the byte b leads to from the row r; nothing else knows where that entry stands
+abbrev pub entry : Row → ℕ → ℕ
+entry r b = slice_index r.next b
+
 -- the row, the rule and the start rows at an index from 0; zeros past the end
 abbrev pub row_at : List Row → ℕ → Row
 row_at rs k = slice_index_or rs k record { next = []; ends = 0; slashes = 0 }
@@ -35,7 +47,7 @@ TrailsIn l = (i : ℕ) → i < 64 → (rule_at l i).trail ≤ l.row_count
 
 -- each entry of a row is one of n rows, or 0
 abbrev pub LeadsIn : ℕ → Row → Type 0
-LeadsIn n r = (b : ℕ) → b < 256 → slice_index r.next b ≤ n
+LeadsIn n r = (b : ℕ) → b < 256 → entry r b ≤ n
 
 abbrev pub RowsLeadIn : Loaded → List Row → Type 0
 RowsLeadIn l rs = (k : ℕ) → k < l.row_count → LeadsIn l.row_count (row_at rs k)
@@ -65,7 +77,8 @@ BeginsIn n ts = (j : ℕ) → j < 10 → IsTrue (step_in n (slice_index_or ts j 
 abbrev pub RulesBeginIn : Loaded → Type 0
 RulesBeginIn l = (i : ℕ) → i < 64 → BeginsIn l.condition_count (rule_at l i).steps
 
--- l and rs name no row, rule or condition that they lack
-abbrev pub IsTable : Loaded → List Row → Type 0
-IsTable l rs =
-    CountsFit l (length rs) × StartsIn l × TrailsIn l × RowsLeadIn l rs × MarksIn l rs × RulesActiveIn l × RulesBeginIn l
+-- the memory names no row, rule or condition that it lacks
+abbrev pub IsTable : Memory → Type 0
+IsTable m =
+    CountsFit m.loaded (length m.rows) × StartsIn m.loaded × TrailsIn m.loaded × RowsLeadIn m.loaded m.rows ×
+    MarksIn m.loaded m.rows × RulesActiveIn m.loaded × RulesBeginIn m.loaded

@@ -3,15 +3,18 @@
 
 ghost use Rattle.std.specs.Prelude.{◌≡◌, ◌^◌, ◌<◌, MatchBool, MatchResult};
 ghost use Rattle.table.specs.declared.NotTable.TheVariants.{Lacking};
-ghost use Rattle.table.specs.Memory.{CountsFit, StartIn, StartsIn, TrailsIn, LeadsIn, RowsLeadIn, MarkedIn, MarksIn, ActiveIn, RulesActiveIn, step_in, BeginsIn, RulesBeginIn, IsTable};
+ghost use Rattle.table.specs.Memory.{CountsFit, StartIn, StartsIn, TrailsIn, LeadsIn, RowsLeadIn, MarkedIn, MarksIn, ActiveIn, RulesActiveIn, step_in, BeginsIn, RulesBeginIn, IsTable, memory};
 
 pub mod held;
 pub mod loaded;
+pub mod taken;
+pub mod walk;
 
 use bits::ConditionSet;
 use grammar::Step;
-pub use held::{Table, take_up};
+pub use held::{Table, Walk};
 pub use loaded::{Loaded, Row, Rule, StartRows};
+pub use taken::take_up;
 
 // Why memory is no table's; the reason has its number.
 #[derive(Clone, Copy, PartialEq, Eq)]
@@ -30,7 +33,7 @@ impl From<NotTable> for u8 {
 
 // Whether memory is a table's, that is, whether it names only what it has.
 pub fn check(loaded: &Loaded, rows: &[Row]) -> Result<(), NotTable>
-    ensures { MatchResult result (λ _. IsTable loaded.now rows.now) (λ e. (e ≡ Lacking) × (IsTable loaded.now rows.now → ⊥)) }
+    ensures { MatchResult result (λ _. IsTable (memory loaded.now rows.now)) (λ e. (e ≡ Lacking) × (IsTable (memory loaded.now rows.now) → ⊥)) }
 {
     if is_whole(loaded, rows) {
         Ok(())
@@ -40,7 +43,7 @@ pub fn check(loaded: &Loaded, rows: &[Row]) -> Result<(), NotTable>
 }
 
 fn is_whole(loaded: &Loaded, rows: &[Row]) -> bool
-    ensures { MatchBool result (IsTable loaded.now rows.now) (IsTable loaded.now rows.now → ⊥) }
+    ensures { MatchBool result (IsTable (memory loaded.now rows.now)) (IsTable (memory loaded.now rows.now) → ⊥) }
 {
     counts_fit(loaded, rows.len())
         && starts_in(loaded)
