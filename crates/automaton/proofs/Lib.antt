@@ -10,3 +10,6 @@ pub mod Spelled
 pub mod Parts
 pub mod Marks
 pub mod Led
+pub mod Turns
+pub mod OneOrder
+pub mod Ordered

@@ -4,3 +4,4 @@ pub mod Automaton
 pub mod Numbering
 pub mod Theorems
 pub mod Reached
+pub mod Order

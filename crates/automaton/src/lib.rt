@@ -2,6 +2,7 @@
 #![tactic(auto)]
 
 ghost use Rattle.automaton.specs.Theorems.{RowsDistinct, MetAreStored, NumbersNameRows, SameIsEqualMembers, EntriesWithin, RoomChangesNothing, StoredAreMet};
+ghost use Rattle.automaton.specs.Order.{RowsInOrder, OneOrder};
 ghost use Rattle.automaton.specs.Reached.{LeadAlongPaths, RowsTell};
 
 // No two rows stand for the same set, and none for the empty one.
@@ -37,6 +38,16 @@ pub fn room_changes_nothing()
 // Each row stands for a start, a trail start, or where a byte leads from a row before it.
 pub fn stored_are_met()
     ensures { StoredAreMet }
+{}
+
+// The rows of a file are numbered in the order in which their sets first come up.
+pub fn rows_in_order()
+    ensures { RowsInOrder }
+{}
+
+// No other sets are in that order.
+pub fn one_order()
+    ensures { OneOrder }
 {}
 
 // Theorem: bytes lead from a set along the paths that spell them.
