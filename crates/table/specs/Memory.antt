@@ -1,5 +1,6 @@
 -- Loaded memory and rows that name nothing they lack.
-use Rattle.std.specs.Prelude.{◌≡◌, ℕ, ◌^◌, ◌<◌, ◌≤◌, Bool, true, false, IsTrue, List, [], length, Some, None, Option, nat_lt, slice_index, slice_index_or}
+use Rattle.std.specs.Prelude.{◌≡◌, ℕ, ◌^◌, ◌<◌, ◌≤◌, Bool, true, false, IsTrue, List, [], map, length, Some, None, Option, nat_lt, slice_index, slice_index_or}
+use Rattle.std.specs.List.{range_with_len}
 use Rattle.bits.specs.Set.{has}
 use Rattle.grammar.specs.declared.Step.{Step}
 use Rattle.grammar.specs.declared.Step.TheVariants.{Begin}
@@ -16,9 +17,13 @@ pub record Memory : Type 0 where
 abbrev pub memory : Loaded → List Row → Memory
 memory l rs = record { loaded = l; rows = rs }
 
--- the row that the byte b leads to from the row r; nothing else knows where that entry stands
+-- the row that the byte b leads to from the row r, and the entries by which each byte leads to the
+-- row `to` says; nothing else knows where an entry stands
 abbrev pub entry : Row → ℕ → ℕ
 entry r b = slice_index r.next b
+
+abbrev pub entries : (ℕ → ℕ) → List ℕ
+entries to = map to (range_with_len 0 256)
 
 -- the row, the rule and the start rows at an index from 0; zeros past the end
 abbrev pub row_at : List Row → ℕ → Row
