@@ -1,5 +1,6 @@
 -- What the smaller functions of the reader of expressions say.
 use Rattle.std.specs.Prelude.{◌≡◌, ℕ, ◌+◌, ◌<◌, ◌≤◌, Bool, true, false, ◌||◌, List, length, Some, None, Err, Option, Result, slice_index}
+use Rattle.std.specs.Str.{byte}
 use Rattle.patterns.specs.Expression.{Expression}
 use Rattle.positions.specs.declared.Repeat.{Repeat}
 use Rattle.positions.specs.Memory.{Work, Sequence, Repeats}
@@ -34,7 +35,7 @@ pub record MarksOn (m : Repeat) (w w' : Work) (all r : Parsed) : Type 0 where
   pub part : Repeats m w w' all.part r.part
 
 abbrev pub goes_on : List ℕ → ℕ → Bool
-goes_on s n = stands s n 123 || passes grammar.starts_atom s n
+goes_on s n = stands s n (byte "{") || passes grammar.starts_atom s n
 
 -- an interval over all that its branch has read
 abbrev pub interval_over : List ℕ → grammar.Parsed → Out grammar.Parsed

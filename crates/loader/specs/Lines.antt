@@ -1,5 +1,6 @@
 -- The lines of a file, as the code gives them one after another.
 use Rattle.std.specs.Prelude.{◌≡◌, ℕ, ◌+◌, ◌≤◌, Bool, ◌&&◌, List, [], ◌∷◌, length, Option, MatchOption, ◌==◌}
+use Rattle.std.specs.Str.{byte}
 use Rattle.grammar.specs.Bytes.{stands}
 use Rattle.grammar.specs.Lines.{Line, lines_from, text_of}
 use Rattle.loader.specs.declared.lines.TextLine.{TextLine}
@@ -22,4 +23,4 @@ pub record Gives (s : TextLines) (r : Option TextLine) (t : TextLines) : Type 0 
 
 -- a text that ends in `%%` where the line starts
 abbrev pub divides_in : List ℕ → ℕ → Bool
-divides_in text start = length text == start + 2 && (stands text start 37 && stands text (start + 1) 37)
+divides_in text start = length text == start + 2 && (stands text start (byte "%") && stands text (start + 1) (byte "%"))

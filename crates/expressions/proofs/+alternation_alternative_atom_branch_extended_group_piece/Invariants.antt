@@ -3,26 +3,28 @@ use Rattle.grammar.specs.Expressions.{inside, marked, repeated_more, piece_by, b
 use Rattle.expressions.proofs.Growing.{Grown}
 use Rattle.expressions.proofs.+alternation_alternative_atom_branch_extended_group_piece.Given as goal
 
+-- The cycle falls by the bytes that are left and by the depth: both are less behind a `(`. Where a
+-- function hands on to the next at the same place, the number at the end is less.
 abbrev pub decreases-alternation : goal.decreases-alternation
-decreases-alternation l = 8 * l.depth + 6
+decreases-alternation l = 8 * (length l.s.now - l.at + l.depth) + 6
 
 abbrev pub decreases-alternative : goal.decreases-alternative
-decreases-alternative l = 8 * l.depth + 5
+decreases-alternative l = 8 * (length l.s.now - l.all.at + l.depth) + 5
 
 abbrev pub decreases-branch : goal.decreases-branch
-decreases-branch l = 8 * l.depth + 4
+decreases-branch l = 8 * (length l.s.now - l.at + l.depth) + 4
 
 abbrev pub decreases-extended : goal.decreases-extended
-decreases-extended l = 8 * l.depth + 3
+decreases-extended l = 8 * (length l.s.now - l.all.at + l.depth) + 3
 
 abbrev pub decreases-piece : goal.decreases-piece
-decreases-piece l = 8 * l.depth + 2
+decreases-piece l = 8 * (length l.s.now - l.at + l.depth) + 2
 
 abbrev pub decreases-atom : goal.decreases-atom
-decreases-atom l = 8 * l.depth + 1
+decreases-atom l = 8 * (length l.s.now - l.at + l.depth) + 1
 
 abbrev pub decreases-group : goal.decreases-group
-decreases-group l = 8 * l.depth
+decreases-group l = 8 * (length l.s.now - l.at + l.depth)
 
 abbrev pub invariant-alternation-loop-work : goal.invariant-alternation-loop-work
 invariant-alternation-loop-work l =
