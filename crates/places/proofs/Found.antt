@@ -4,7 +4,7 @@ use Rattle.std.proofs.lemmas.Bool.{false≢true, cases_Bool, cases_eq, and_from,
 use Rattle.std.proofs.lemmas.Option.{none-some}
 use Rattle.patterns.specs.Expression.{Expression}
 use Rattle.grammar.specs.File.{RuleText}
-use Rattle.places.specs.Listing.{Place, Splits, Reads}
+use Rattle.places.specs.Listing.{Place, Splits, Matches}
 use Rattle.places.proofs.Matches.{matches, matches_has, matches_at}
 
 abbrev pub splits_test : Expression → Option Expression → List ℕ → ℕ → Bool
@@ -119,6 +119,10 @@ may_at q p t m =
     (and_from (nat_le 1 t) _ (le-leb 1 t m.some)
     (and_from (nat_le t 1024) (nat_le t (length p.rest)) (le-leb t 1024 m.most) (le-leb t (length p.rest) m.within))))
 
+-- q has a reading there: a match of at most 1,024 bytes
+abbrev pub Reads : RuleText → Place → ℕ → ℕ → Type 0
+Reads q p t h = Matches q p t h × (t ≤ 1024)
+
 module _ (q : RuleText) (p : Place) (t : ℕ) where
   abbrev test : ℕ → Bool
   test = splits_test q.expression q.trailing (take t p.rest)
@@ -126,17 +130,18 @@ module _ (q : RuleText) (p : Place) (t : ℕ) where
   reads_of : (h : ℕ) → MayRead q p t → Greatest test t h → Reads q p t h
   reads_of h m g =
       let s : List ℕ = take t p.rest in
-      let long : length s ≡ t = length-take-le t p.rest m.within in
-      record {
-        active = m.active;
-        anchor = m.anchor;
-        some = m.some;
-        most = m.most;
-        within = m.within;
-        headed = g.some;
-        splits = splits_of q.expression q.trailing s h g.holds;
-        greatest = λ k x. let w : k ≤ length s = splits_within q.expression q.trailing s k x in g.above k (omega arith) (splits_at q.expression q.trailing s k x);
-      }
+      let long : length s ≡ t = length-take-le t p.rest m.within in (
+        record {
+          active = m.active;
+          anchor = m.anchor;
+          some = m.some;
+          within = m.within;
+          headed = g.some;
+          splits = splits_of q.expression q.trailing s h g.holds;
+          greatest = λ k x. let w : k ≤ length s = splits_within q.expression q.trailing s k x in g.above k (omega arith) (splits_at q.expression q.trailing s k x);
+        },
+        m.most,
+      )
 
   -- the head is found exactly if there is a reading with it
   pub head_reads : (h : ℕ) → head_at q p t ≡ Some h → Reads q p t h
@@ -148,9 +153,9 @@ module _ (q : RuleText) (p : Place) (t : ℕ) where
       ]
 
   pub reads_head : (h : ℕ) → Reads q p t h → head_at q p t ≡ Some h
-  reads_head h r =
+  reads_head h (r, most) =
       let s : List ℕ = take t p.rest in
-      let may : may_read q p t ≡ true = may_at q p t (record { active = r.active; anchor = r.anchor; some = r.some; most = r.most; within = r.within }) in
+      let may : may_read q p t ≡ true = may_at q p t (record { active = r.active; anchor = r.anchor; some = r.some; most = most; within = r.within }) in
       let long : length s ≡ t = length-take-le t p.rest r.within in
       let within : h ≤ length s = splits_within q.expression q.trailing s h r.splits in
       cond-true (may_read q p t) (greatest_to test t) None may ∙

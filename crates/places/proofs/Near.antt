@@ -3,7 +3,7 @@ use Rattle.std.proofs.Common.{◌≡◌, ℕ, zero, suc, ◌≤◌, ◌↔◌, L
 use Rattle.std.proofs.lemmas.List.{length-take}
 use Rattle.grammar.specs.File.{RuleText}
 use Rattle.places.specs.declared.Reading.{Reading}
-use Rattle.places.specs.Listing.{Place, Reads, Splits, Listed, last_resort, IsListing}
+use Rattle.places.specs.Listing.{Place, Matches, Splits, Listed, last_resort, IsListing}
 use Rattle.places.specs.Near.{near, OnlyNear}
 use Rattle.places.proofs.Ordered.{listing_as}
 
@@ -24,28 +24,26 @@ module _ (p : Place) where
       one [] = refl
       one (b ∷ s) = refl
 
-  to_near : (q : RuleText) (n h : ℕ) → Reads q p n h → Reads q (near p) n h
-  to_near q n h r =
-      let e = same_front n r.most in
+  to_near : (q : RuleText) (n h : ℕ) → Matches q p n h → n ≤ 1024 → Matches q (near p) n h
+  to_near q n h r most =
+      let e = same_front n most in
       record {
         active = r.active;
         anchor = r.anchor;
         some = r.some;
-        most = r.most;
-        within = omega (arith, r.most, r.within, length-take 1024 p.rest);
+        within = omega (arith, most, r.within, length-take 1024 p.rest);
         headed = r.headed;
         splits = subst (λ (s : List ℕ). Splits q.expression q.trailing s h) (sym e) r.splits;
         greatest = λ k s. r.greatest k (subst (λ (t : List ℕ). Splits q.expression q.trailing t k) e s);
       }
 
-  from_near : (q : RuleText) (n h : ℕ) → Reads q (near p) n h → Reads q p n h
-  from_near q n h r =
-      let e = same_front n r.most in
+  from_near : (q : RuleText) (n h : ℕ) → Matches q (near p) n h → n ≤ 1024 → Matches q p n h
+  from_near q n h r most =
+      let e = same_front n most in
       record {
         active = r.active;
         anchor = r.anchor;
         some = r.some;
-        most = r.most;
         within = omega (arith, r.within, length-take 1024 p.rest);
         headed = r.headed;
         splits = subst (λ (s : List ℕ). Splits q.expression q.trailing s h) e r.splits;
@@ -55,8 +53,8 @@ module _ (p : Place) where
   module _ (rules : List RuleText) where
     listed_near : (d : Reading) → Listed rules p d ↔ Listed rules (near p) d
     listed_near d = (
-      λ l. record { before = l.before; rule = l.rule; number = l.number; of = l.of; reads = to_near l.rule d.total d.head l.reads },
-      λ l. record { before = l.before; rule = l.rule; number = l.number; of = l.of; reads = from_near l.rule d.total d.head l.reads },
+      λ l. record { before = l.before; rule = l.rule; number = l.number; of = l.of; matches = to_near l.rule d.total d.head l.matches l.most; most = l.most },
+      λ l. record { before = l.before; rule = l.rule; number = l.number; of = l.of; matches = from_near l.rule d.total d.head l.matches l.most; most = l.most },
     )
 
 other_rest : (A : Reading → Type 0) (r t : List ℕ) (ds : List Reading) → last_resort r ≡ last_resort t → IsListing A r ds → IsListing A t ds

@@ -4,9 +4,9 @@ use Rattle.std.proofs.lemmas.Bool.{cases_eq}
 use Rattle.std.proofs.lemmas.Option.{none-some, same_Some}
 use Rattle.grammar.specs.File.{RuleText}
 use Rattle.places.specs.declared.Reading.{Reading}
-use Rattle.places.specs.Listing.{Place, Reads, Listed, last_resort, Listing, OneListing}
+use Rattle.places.specs.Listing.{Place, Listed, last_resort, Listing, OneListing}
 use Rattle.places.proofs.Ordered.{Exactly, exactly_none, exactly_one, exactly_join, listing_of, listing_unique, listing_as}
-use Rattle.places.proofs.Found.{head_at, head_reads, reads_head}
+use Rattle.places.proofs.Found.{Reads, head_at, head_reads, reads_head}
 
 abbrev pub reading : ℕ → ℕ → ℕ → Reading
 reading i t h = record { rule = i; total = t; head = h }
@@ -87,7 +87,7 @@ module _ (qs : List RuleText) (p : Place) where
   row_total t d r = subst (λ (x : ℕ). Row 0 qs p x d) (sym r.total) r
 
   rows_exactly : (t : ℕ) → Exactly (Rows qs p t) (rows qs p t)
-  rows_exactly zero = exactly_none (Rows qs p 0) (λ d r. omega (arith, r.0.reads.some, r.1))
+  rows_exactly zero = exactly_none (Rows qs p 0) (λ d r. omega (arith, r.0.reads.0.some, r.1))
   rows_exactly (suc t) =
       exactly_join (Row 0 qs p (suc t)) (Rows qs p t) (Rows qs p (suc t))
       (λ d e a r. inl (omega (arith, a.total, r.1)))
@@ -100,12 +100,12 @@ module _ (qs : List RuleText) (p : Place) where
       (row 0 qs p (suc t)) (rows qs p t) (row_exactly 0 qs p (suc t)) (rows_exactly t)
 
   listed_row : (d : Reading) → Rows qs p (min 1024 (length p.rest)) d → Listed qs p d
-  listed_row d r = record { before = r.0.before; rule = r.0.text; number = omega (arith, r.0.rule); of = r.0.of; reads = r.0.reads }
+  listed_row d r = record { before = r.0.before; rule = r.0.text; number = omega (arith, r.0.rule); of = r.0.of; matches = r.0.reads.0; most = r.0.reads.1 }
 
   row_listed : (d : Reading) → Listed qs p d → Rows qs p (min 1024 (length p.rest)) d
   row_listed d l = (
-    record { before = l.before; text = l.rule; rule = omega (arith, l.number); of = l.of; total = refl; reads = l.reads },
-    omega (arith, l.reads.most, l.reads.within),
+    record { before = l.before; text = l.rule; rule = omega (arith, l.number); of = l.of; total = refl; reads = (l.matches, l.most) },
+    omega (arith, l.most, l.matches.within),
   )
 
   pub listed_are : Listing qs p (listed_readings qs p)

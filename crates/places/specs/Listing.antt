@@ -15,24 +15,25 @@ abbrev pub Splits : Expression → Option Expression → List ℕ → ℕ → Ty
 Splits r None s h = (h ≡ length s) × Has r s
 Splits r (Some x) s h = (h ≤ length s) × Has r (take h s) × Has x (drop h s)
 
--- the rule q has a reading with this total and head at the place p
-pub record Reads (q : RuleText) (p : Place) (total head : ℕ) : Type 0 where
+-- at the place p the rule q matches so many bytes in all, of which the head is r's: a head of at least
+-- one byte, and the greatest there is
+pub record Matches (q : RuleText) (p : Place) (total head : ℕ) : Type 0 where
   pub active : q.active p.condition ≡ true
   pub anchor : q.anchored ≡ true → p.at_line_start ≡ true
   pub some : 1 ≤ total
-  pub most : total ≤ 1024
   pub within : total ≤ length p.rest
   pub headed : 1 ≤ head
   pub splits : Splits q.expression q.trailing (take total p.rest) head
   pub greatest : (h : ℕ) → Splits q.expression q.trailing (take total p.rest) h → h ≤ head
 
--- d is a reading of one of the rules, which count from 1
+-- d is a reading of one of the rules, which count from 1: a match of at most 1,024 bytes
 pub record Listed (rules : List RuleText) (p : Place) (d : Reading) : Type 0 where
   pub before : ℕ
   pub rule : RuleText
   pub number : d.rule ≡ suc before
   pub of : slice_get rules before ≡ Some rule
-  pub reads : Reads rule p d.total d.head
+  pub matches : Matches rule p d.total d.head
+  pub most : d.total ≤ 1024
 
 -- longer totals first, then earlier rules
 abbrev pub Before : Reading → Reading → Type 0
