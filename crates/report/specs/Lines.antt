@@ -1,12 +1,13 @@
 -- Where a place of a file stands: its line, its column, and the line's two ends.
 use Rattle.std.specs.Prelude.{ℕ, zero, suc, ◌+◌, ◌-◌, min, Bool, cond, not, List, length, take, drop, count_by, take_while, ◌==◌, slice_index}
+use Rattle.std.specs.Str.{byte}
 
 -- a place behind the file's end counts as the end
 abbrev pub clipped : List ℕ → ℕ → ℕ
 clipped file place = min place (length file)
 
 abbrev pub newline : ℕ → Bool
-newline b = b == 10
+newline b = b == byte "\n"
 
 -- how many newlines are among the first n bytes
 abbrev pub newlines : List ℕ → ℕ → ℕ

@@ -2,7 +2,8 @@
 use Rattle.std.proofs.Common.{◌≡◌, ℕ, ◌+◌, ◌-◌, ◌*◌, ◌≤◌, true, leb, List, [], ◌∷◌, ◌++◌, get_or, Some, sym, ap, ◌∙◌, subst, append_assoc, append-nil, add-one, arith}
 use Rattle.std.proofs.lemmas.Bool.{and_from, le-leb}
 use Rattle.grammar.specs.declared.Read.{Read}
-use Rattle.rule_cases.specs.Escapes.{within, unit_at}
+use Rattle.grammar.specs.Bytes.{within}
+use Rattle.rule_cases.specs.Escapes.{unit_at}
 use Rattle.rule_cases.specs.Runs.{Counts, copies, Added, Means}
 use Rattle.rule_cases.specs.Runs as runs
 

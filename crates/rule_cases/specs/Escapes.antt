@@ -1,25 +1,26 @@
 -- Escaped text: what is meant at a place.
-use Rattle.std.specs.Prelude.{ℕ, ◌+◌, ◌-◌, ◌*◌, Bool, cond, ◌&&◌, List, length, Some, None, Option, ◌==◌, nat_le, nat_lt, slice_index}
+use Rattle.std.specs.Prelude.{ℕ, ◌+◌, ◌-◌, ◌*◌, Bool, cond, ◌&&◌, List, length, Some, None, Option, ◌==◌, nat_lt, slice_index}
+use Rattle.std.specs.Str.{byte}
 use Rattle.grammar.specs.declared.Read.{Read}
-
-abbrev pub within : ℕ → ℕ → ℕ → Bool
-within low high b = nat_le low b && nat_le b high
-
--- the byte b at n
-abbrev pub stands : List ℕ → ℕ → ℕ → Bool
-stands s n b = nat_lt n (length s) && slice_index s n == b
+use Rattle.grammar.specs.Bytes.{within, digit, stands}
 
 -- `~` and this byte at n
 abbrev pub bracket_at : List ℕ → ℕ → ℕ → Bool
-bracket_at s n b = stands s n 126 && stands s (n + 1) b
+bracket_at s n b = stands s n (byte "~") && stands s (n + 1) b
 
 -- the value of a hexadecimal digit
 abbrev pub digit_of : ℕ → Option ℕ
-digit_of b = cond (within 48 57 b) (Some (b - 48)) (cond (within 97 102 b) (Some (b - 87)) None)
+digit_of b =
+    cond (digit b) (Some (b - byte "0"))
+    (cond (within (byte "a") (byte "f") b) (Some (b - byte "a" + 10)) None)
 
 -- what the letter behind a `~` means: a newline, a tab, a space or a tilde
 abbrev pub named_by : ℕ → Option ℕ
-named_by b = cond (b == 110) (Some 10) (cond (b == 116) (Some 9) (cond (b == 115) (Some 32) (cond (b == 126) (Some 126) None)))
+named_by b =
+    cond (b == byte "n") (Some (byte "\n"))
+    (cond (b == byte "t") (Some (byte "\t"))
+    (cond (b == byte "s") (Some (byte " "))
+    (cond (b == byte "~") (Some (byte "~")) None)))
 
 -- a byte that is meant by what ends before n
 abbrev pub meant : ℕ → ℕ → Option (Read ℕ)
@@ -42,12 +43,12 @@ hexadecimal_at s n = cond (nat_lt (n + 1) (length s)) (paired (n + 2) (digit_of 
 abbrev pub escape_at : List ℕ → ℕ → Option (Read ℕ)
 escape_at s n =
     cond (nat_lt n (length s))
-    (cond (slice_index s n == 120) (hexadecimal_at s (n + 1)) (before (n + 1) (named_by (slice_index s n))))
+    (cond (slice_index s n == byte "x") (hexadecimal_at s (n + 1)) (before (n + 1) (named_by (slice_index s n))))
     None
 
 -- the byte that is meant at n
 abbrev pub unit_at : List ℕ → ℕ → Option (Read ℕ)
 unit_at s n =
     cond (nat_lt n (length s))
-    (cond (slice_index s n == 126) (escape_at s (n + 1)) (meant (n + 1) (slice_index s n)))
+    (cond (slice_index s n == byte "~") (escape_at s (n + 1)) (meant (n + 1) (slice_index s n)))
     None

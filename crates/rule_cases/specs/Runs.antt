@@ -1,6 +1,8 @@
 -- Escaped text: what is meant from place to place.
 use Rattle.std.specs.Prelude.{◌≡◌, ℕ, zero, suc, ◌+◌, ◌-◌, ◌*◌, true, List, [], ◌∷◌, ◌++◌, slice_index}
-use Rattle.rule_cases.specs.Escapes.{within, stands, bracket_at, meant, unit_at}
+use Rattle.std.specs.Str.{byte}
+use Rattle.grammar.specs.Bytes.{digit, stands}
+use Rattle.rule_cases.specs.Escapes.{bracket_at, meant, unit_at}
 
 -- from `from` up to a place these bytes are meant, one by one
 pub data Spells (s : List ℕ) (from : ℕ) : ℕ → List ℕ → Type 0 where
@@ -10,7 +12,8 @@ pub data Spells (s : List ℕ) (from : ℕ) : ℕ → List ℕ → Type 0 where
 -- from `from` up to a place stand the decimal digits of this number
 pub data Counts (s : List ℕ) (from : ℕ) : ℕ → ℕ → Type 0 where
   none : Counts s from from 0
-  more : {n k : ℕ} → Counts s from n k → within 48 57 (slice_index s n) ≡ true → Counts s from (n + 1) (k * 10 + (slice_index s n - 48))
+  more : {n k : ℕ} → Counts s from n k → digit (slice_index s n) ≡ true
+      → Counts s from (n + 1) (k * 10 + (slice_index s n - byte "0"))
 
 -- these bytes k times
 unfoldable pub copies : ℕ → List ℕ → List ℕ
@@ -24,9 +27,9 @@ pub record Run (s : List ℕ) (from m : ℕ) (old new : List ℕ) : Type 0 where
   pub end : ℕ
   pub bytes : List ℕ
   pub counts : Counts s from bar times
-  pub divides : stands s bar 124 ≡ true
+  pub divides : stands s bar (byte "|") ≡ true
   pub spells : Spells s (bar + 1) end bytes
-  pub closes : bracket_at s end 93 ≡ true
+  pub closes : bracket_at s end (byte "]") ≡ true
   pub behind : m ≡ end + 2
   pub adds : new ≡ old ++ copies times bytes
 
@@ -40,4 +43,4 @@ pub record Added (s : List ℕ) (from m : ℕ) (old new : List ℕ) : Type 0 whe
 pub data Means (s : List ℕ) : ℕ → List ℕ → Type 0 where
   empty : Means s 0 []
   units : (n m : ℕ) (old new : List ℕ) → Means s n old → Added s n m old new → Means s m new
-  run : (n m : ℕ) (old new : List ℕ) → Means s n old → bracket_at s n 91 ≡ true → Run s (n + 2) m old new → Means s m new
+  run : (n m : ℕ) (old new : List ℕ) → Means s n old → bracket_at s n (byte "[") ≡ true → Run s (n + 2) m old new → Means s m new

@@ -1,7 +1,8 @@
 // Bytes written as a line of readable text. `~n`, `~t`, `~s` and `~~` are a newline, a tab, a space and a tilde, `~xHH` is the
 // byte of two hexadecimal digits, `~[COUNT|TEXT~]` is TEXT as often as COUNT says, and any other byte is itself.
 ghost use Rattle.std.specs.Prelude.{◌≡◌, ◌+◌, ◌<◌, ◌≤◌, true, length, IfSome, IfOk};
-ghost use Rattle.rule_cases.specs.Escapes.{digit_of, named_by, hexadecimal_at, escape_at, unit_at, bracket_at, stands};
+ghost use Rattle.grammar.specs.Bytes.{stands};
+ghost use Rattle.rule_cases.specs.Escapes.{digit_of, named_by, hexadecimal_at, escape_at, unit_at, bracket_at};
 ghost use Rattle.rule_cases.specs.Runs.{Counts, Added, Run, Means};
 
 use anyhow::{Context, ensure};
