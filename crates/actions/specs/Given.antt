@@ -15,7 +15,8 @@ given xs n = filter_map (λ x. x) (take n xs)
 abbrev pub padded : List Step → List (Option Step)
 padded xs = map Some xs ++ replicate (10 - length xs) None
 
--- how many steps there may be: eight that write, one more once a condition is begun, and one more at the end
+-- how many steps there may be: eight that write, one more once a condition is begun, and one more
+-- at the end
 abbrev pub most : Stage → ℕ
 most Writing = 8
 most Begun = 9

@@ -31,7 +31,8 @@ fn worded(s: &[u8], n: usize, word: &[u8], step: Step) -> Result<Read<Step>, Fau
 // The number at n, which has to be within its bounds, and what closes it. The bounds are two numbers: a RangeInclusive
 // also says whether it is used up, which the contract would have to rule out.
 fn numeral(s: &[u8], n: usize, low: usize, high: usize, behind: &[u8]) -> Result<Read<usize>, Fault>
-    ensures is { (make : ℕ → Step) → made_by make result ≡ numeral_at s.now low high make behind.now n }
+    ensures is { (make : ℕ → Step) → made_by make result ≡ numeral_at s.now low high make behind.now
+        n }
     ensures most { IfOk result (λ x. x.value ≤ high) }
     ensures moves { 0 < length behind.now → Moves result n (length s.now) }
 {

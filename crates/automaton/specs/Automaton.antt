@@ -1,4 +1,5 @@
--- The positions of all rules of a file: rule i, counted from 0, has its end mark and its other positions behind those of the rules before it.
+-- The positions of all rules of a file: rule i, counted from 0, has its end mark and its other
+-- positions behind those of the rules before it.
 use Rattle.std.specs.Prelude.{ℕ, zero, suc, ◌+◌, Bool, false, not, ◌&&◌, ◌||◌, List, [], ◌∷◌, ◌==◌}
 use Rattle.patterns.specs.Positions.{first}
 use Rattle.grammar.specs.File.{RuleText, rule_size}
@@ -19,10 +20,12 @@ after (q ∷ qs) a p t = pattern_after q.expression q.trailing a p t || after qs
 abbrev pub live : RuleText → ℕ → Bool → Bool
 live q c line = q.active c && (not q.anchored || line)
 
--- the start of the condition c, at line start or not: the first positions of each rule that is active there
+-- the start of the condition c, at line start or not: the first positions of each rule that is
+-- active there
 abbrev pub start_set : List RuleText → ℕ → ℕ → Bool → Set
 start_set [] a c line p = false
-start_set (q ∷ qs) a c line p = (live q c line && first q.expression (a + 1) p) || start_set qs (a + rule_size q) c line p
+start_set (q ∷ qs) a c line p = (live q c line && first q.expression (a + 1) p)
+    || start_set qs (a + rule_size q) c line p
 
 -- the trail start of rule i; empty where it has no trailing part
 abbrev pub trail_set : List RuleText → ℕ → ℕ → Set

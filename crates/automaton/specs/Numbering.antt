@@ -1,4 +1,5 @@
--- Sets are numbered from 1 as they first come up. One without members has no row, and its number is 0.
+-- Sets are numbered from 1 as they first come up. One without members has no row, and its number is
+-- 0.
 use Rattle.std.specs.Prelude.{ℕ, zero, suc, Bool, true, false, cond, ◌&&◌, ◌||◌, List, [], ◌∷◌, ◌++◌, length, nat_le, nat_lt, slice_index_or}
 use Rattle.grammar.specs.File.{RuleText}
 use Rattle.automaton.specs.Sets.{Set, empty, same}
@@ -44,7 +45,8 @@ unfoldable pub leads_from : List RuleText → Set → ℕ → ℕ → List Set
 leads_from qs s b zero = []
 leads_from qs s b (suc n) = leads qs s b ∷ leads_from qs s (suc b) n
 
--- from each row on, from row k on (counted from 0), by bytes 0 to 255; no further once there are more than `most`, in at most n turns
+-- from each row on, from row k on (counted from 0), by bytes 0 to 255; no further once there are
+-- more than `most`, in at most n turns
 unfoldable pub grown : List RuleText → ℕ → ℕ → ℕ → List Set → List Set
 grown qs most zero k rs = rs
 grown qs most (suc n) k rs =
@@ -54,4 +56,5 @@ grown qs most (suc n) k rs =
 
 -- the rows of a file with this many conditions, up to more than `most`
 unfoldable pub row_sets : List RuleText → ℕ → ℕ → List Set
-row_sets qs conditions most = grown qs most (suc most) 0 (meet_all [] (starts qs 0 conditions ++ trails qs 0 (length qs)))
+row_sets qs conditions most = grown qs most (suc most) 0 (meet_all [] (starts qs 0 conditions
+    ++ trails qs 0 (length qs)))

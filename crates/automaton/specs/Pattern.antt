@@ -1,4 +1,5 @@
--- The positions of a pattern r, with a trailing part x or none: its end mark at a, the positions of r behind it, and for x a
+-- The positions of a pattern r, with a trailing part x or none: its end mark at a, the positions of
+-- r behind it, and for x a
 -- slash mark and the positions of x.
 use Rattle.std.specs.Prelude.{ℕ, ◌+◌, Bool, false, ◌&&◌, ◌||◌, Some, None, Option, ◌==◌}
 use Rattle.patterns.specs.Expression.{Expression}
@@ -35,7 +36,8 @@ trail_after (Some x) a c p q = follows x c p q || (last x c p && q == a)
 -- q may come straight after the position p
 abbrev pub pattern_after : Expression → Option Expression → ℕ → ℕ → ℕ → Bool
 pattern_after r x a p q =
-    follows r (a + 1) p q || ((last r (a + 1) p && behind_last x a (slash r a) q) || trail_after x a (slash r a + 1) p q)
+    follows r (a + 1) p q || ((last r (a + 1) p && behind_last x a (slash r a) q)
+    || trail_after x a (slash r a + 1) p q)
 
 abbrev pub pattern_size : Expression → Option Expression → ℕ
 pattern_size r x = 1 + (size r + trailing_size x)

@@ -17,25 +17,30 @@ pub record FirstSame (rs : List Set) (s : Set) (i : ℕ) : Type 0 where
 
 -- no two of these are the same, and none is empty
 pub record Apart (rs : List Set) : Type 0 where
-  pub distinct : (i j : ℕ) → i < j → j < length rs → same (slice_index_or rs i none) (slice_index_or rs j none) ≡ false
+  pub distinct : (i j : ℕ) → i < j → j < length rs
+      → same (slice_index_or rs i none) (slice_index_or rs j none) ≡ false
   pub filled : (i : ℕ) → i < length rs → empty (slice_index_or rs i none) ≡ false
 
 abbrev pub RowsDistinct : Type 0
 RowsDistinct = (qs : List RuleText) (conditions most : ℕ) → Apart (row_sets qs conditions most)
 
--- whatever a scan may start from is among the rows, and where they are not too many, whatever a byte leads to from a row
+-- whatever a scan may start from is among the rows, and where they are not too many, whatever a
+-- byte leads to from a row
 pub record Closed (qs : List RuleText) (conditions most : ℕ) (rs : List Set) : Type 0 where
   pub from_starts : (c : ℕ) (line : Bool) → c < conditions → Known rs (start_set qs 0 c line)
   pub from_trails : (i : ℕ) → i < length qs → Known rs (trail_set qs 0 i)
-  pub from_rows : length rs ≤ most → (k b : ℕ) → k < length rs → b < 256 → Known rs (leads qs (slice_index_or rs k none) b)
+  pub from_rows : length rs ≤ most → (k b : ℕ) → k < length rs → b < 256
+      → Known rs (leads qs (slice_index_or rs k none) b)
 
 abbrev pub MetAreStored : Type 0
-MetAreStored = (qs : List RuleText) (conditions most : ℕ) → Closed qs conditions most (row_sets qs conditions most)
+MetAreStored = (qs : List RuleText) (conditions most : ℕ)
+    → Closed qs conditions most (row_sets qs conditions most)
 
 -- the number of a set is 0, or that of the first row that is the same; once given, it stays
 pub record Named (rs : List Set) (s : Set) : Type 0 where
   pub of_empty : empty s ≡ true → number rs s ≡ 0
-  pub of_stored : empty s ≡ false → stored rs s ≡ true → (i : ℕ) × (number rs s ≡ suc i) × FirstSame rs s i
+  pub of_stored : empty s ≡ false → stored rs s ≡ true → (i : ℕ) × (number rs s ≡ suc i)
+      × FirstSame rs s i
   pub stays : Known rs s → (ts : List Set) → number (rs ++ ts) s ≡ number rs s
 
 abbrev pub NumbersNameRows : Type 0
@@ -65,14 +70,20 @@ EntriesWithin = (rs : List Set) (s : Set) → Known rs s → number rs s ≤ len
 -- where the rows fit, more room changes none of them
 abbrev pub RoomChangesNothing : Type 0
 RoomChangesNothing =
-    (qs : List RuleText) (conditions most more : ℕ) → length (row_sets qs conditions most) ≤ most → most ≤ more → row_sets qs conditions more ≡ row_sets qs conditions most
+    (qs : List RuleText) (conditions most more : ℕ) → length (row_sets qs conditions most) ≤ most
+    → most ≤ more → row_sets qs conditions more ≡ row_sets qs conditions most
 
--- row k, counted from 0, stands for a start, for a trail start, or for where a byte leads from a row before it
+-- row k, counted from 0, stands for a start, for a trail start, or for where a byte leads from a
+-- row before it
 pub data Met (qs : List RuleText) (conditions : ℕ) (rs : List Set) (k : ℕ) : Type 0 where
-  at_start : (c : ℕ) (line : Bool) → c < conditions → slice_index_or rs k none ≡ start_set qs 0 c line → Met qs conditions rs k
-  at_trail : (i : ℕ) → i < length qs → slice_index_or rs k none ≡ trail_set qs 0 i → Met qs conditions rs k
-  from_row : (j b : ℕ) → j < k → b < 256 → slice_index_or rs k none ≡ leads qs (slice_index_or rs j none) b → Met qs conditions rs k
+  at_start : (c : ℕ) (line : Bool) → c < conditions
+      → slice_index_or rs k none ≡ start_set qs 0 c line → Met qs conditions rs k
+  at_trail : (i : ℕ) → i < length qs → slice_index_or rs k none ≡ trail_set qs 0 i
+      → Met qs conditions rs k
+  from_row : (j b : ℕ) → j < k → b < 256
+      → slice_index_or rs k none ≡ leads qs (slice_index_or rs j none) b → Met qs conditions rs k
 
 -- no other set is stored
 abbrev pub StoredAreMet : Type 0
-StoredAreMet = (qs : List RuleText) (conditions most k : ℕ) → k < length (row_sets qs conditions most) → Met qs conditions (row_sets qs conditions most) k
+StoredAreMet = (qs : List RuleText) (conditions most k : ℕ)
+    → k < length (row_sets qs conditions most) → Met qs conditions (row_sets qs conditions most) k

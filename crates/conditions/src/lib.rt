@@ -115,7 +115,8 @@ impl Conditions {
     // Where a rule line that starts at n is active: in the conditions that it names in `< >`, or else in all that are inclusive.
     pub fn active(&self, s: &[u8], n: usize) -> Result<Read<ConditionSet>, Fault>
         ensures is { picks result ≡ active_at s.now (known self.now) n }
-        ensures moves { IfOk result (λ p. (n ≤ p.next) × (n ≤ length s.now → p.next ≤ length s.now)) }
+        ensures moves { IfOk result (λ p. (n ≤ p.next)
+            × (n ≤ length s.now → p.next ≤ length s.now)) }
     {
         if stands(s, n, b'<') {
             return self.list(s, n + 1);

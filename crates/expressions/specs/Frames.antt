@@ -36,4 +36,5 @@ Forms i k w w' x f = (e : Expression) (a : ℕ) → Laid w e a x → Placed (cop
 
 -- whatever x is, of n positions from a on, f is all copies of it under the interval i
 abbrev pub Copies : Interval → ℕ → ℕ → Work → Work → Fragment → Fragment → Type 0
-Copies i a n w w' x f = (e : Expression) → Laid w e a x → size e ≡ n → a + suc (extra i) * n ≤ 512 → Placed (repeated i e) a w w' f
+Copies i a n w w' x f = (e : Expression) → Laid w e a x → size e ≡ n → a + suc (extra i) * n ≤ 512
+    → Placed (repeated i e) a w w' f

@@ -13,7 +13,8 @@ use Rattle.expressions.specs.declared.Parsed.{Parsed}
 abbrev pub parsed_as : Parsed → Expression → grammar.Parsed
 parsed_as r t = record { tree = t; at = r.at; used = r.used }
 
--- the outcome o is a tree, with the place and the count that r has; its positions are laid down in w' from `base` on, and nothing below them changed since w
+-- the outcome o is a tree, with the place and the count that r has; its positions are laid down in
+-- w' from `base` on, and nothing below them changed since w
 pub record Lays (o : Out grammar.Parsed) (base : ℕ) (w w' : Work) (r : Parsed) : Type 0 where
   pub tree : Expression
   pub is : o ≡ Ok (parsed_as r tree)
@@ -31,8 +32,10 @@ pub record Holds (w : Work) (base : ℕ) (all : Parsed) (t : Expression) : Type 
   pub laid : Laid w t base all.part
 
 -- whatever tree `all` is, r is what `step` makes of it
-abbrev pub Steps : (grammar.Parsed → Out grammar.Parsed) → ℕ → Work → Work → Parsed → Result Parsed Fault → Type 0
-Steps step base w w' all r = (t : Expression) → Holds w base all t → Gives (step (parsed_as all t)) base w w' r
+abbrev pub Steps : (grammar.Parsed → Out grammar.Parsed) → ℕ → Work → Work → Parsed
+    → Result Parsed Fault → Type 0
+Steps step base w w' all r = (t : Expression) → Holds w base all t
+    → Gives (step (parsed_as all t)) base w w' r
 
 -- what was read is at least one byte, and ends within n
 abbrev pub Moves : Result Parsed Fault → ℕ → ℕ → Type 0

@@ -16,7 +16,8 @@ use Rattle.expressions.specs.Lays.{Gives}
 -- a repeat mark at n, by what it makes of an expression; or none
 abbrev pub Repeating : List ℕ → ℕ → Option Repeat → Type 0
 Repeating s n None = passes grammar.repeat_mark s n ≡ false
-Repeating s n (Some r) = (passes grammar.repeat_mark s n ≡ true) × ((e : Expression) → grammar.repeated_by (slice_index s n) e ≡ made r e)
+Repeating s n (Some r) = (passes grammar.repeat_mark s n ≡ true)
+    × ((e : Expression) → grammar.repeated_by (slice_index s n) e ≡ made r e)
 
 -- the positions of `all` are those from `base` up to as many as are used
 abbrev pub Counted : ℕ → Parsed → Type 0
@@ -42,6 +43,7 @@ abbrev pub interval_over : List ℕ → grammar.Parsed → Out grammar.Parsed
 interval_over s p = then (grammar.bounds_at s (p.at + 1)) (grammar.repeated_over p)
 
 -- an alternation, in work memory of at least 1,024 sets
-pub record Expressed (s : List ℕ) (at used : ℕ) (w w' : Work) (r : Result Parsed Fault) : Type 0 where
+pub record Expressed (s : List ℕ) (at used : ℕ) (w w' : Work)
+    (r : Result Parsed Fault) : Type 0 where
   pub reads : 1024 ≤ length w → Gives (grammar.alternation_at s at used) used w w' r
   pub short : length w < 1024 → (r ≡ Err (fault Memory 0)) × (w' ≡ w)

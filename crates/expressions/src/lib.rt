@@ -266,7 +266,8 @@ fn quote(s: &[u8], at: usize, used: usize, work: &mut Work) -> Result<Parsed, Fa
 #[cycle(alternation_alternative_atom_branch_extended_group_piece)]
 fn group(s: &[u8], at: usize, used: usize, depth: usize, work: &mut Work) -> Result<Parsed, Fault>
     requires { at < length s.now }
-    ensures gives { Gives (group_by (inside depth s.now) s.now at used) used work.old work.new result }
+    ensures gives { Gives (group_by (inside depth s.now) s.now at used) used work.old work.new
+        result }
     ensures moves { Moves result at (length s.now) }
 {
     if depth == 0 {
@@ -307,7 +308,8 @@ fn repeat_mark(s: &[u8], n: usize) -> Option<Repeat>
 
 #[cycle(alternation_alternative_atom_branch_extended_group_piece)]
 fn piece(s: &[u8], at: usize, used: usize, depth: usize, work: &mut Work) -> Result<Parsed, Fault>
-    ensures gives { Gives (piece_by (inside depth s.now) s.now at used) used work.old work.new result }
+    ensures gives { Gives (piece_by (inside depth s.now) s.now at used) used work.old work.new
+        result }
     ensures moves { Moves result at (length s.now) }
 {
     let mut all = atom(s, at, used, depth, work)?;
@@ -347,7 +349,8 @@ fn extended(
 
 #[cycle(alternation_alternative_atom_branch_extended_group_piece)]
 fn branch(s: &[u8], at: usize, used: usize, depth: usize, work: &mut Work) -> Result<Parsed, Fault>
-    ensures gives { Gives (branch_by (inside depth s.now) s.now at used) used work.old work.new result }
+    ensures gives { Gives (branch_by (inside depth s.now) s.now at used) used work.old work.new
+        result }
     ensures moves { Moves result at (length s.now) }
 {
     let mut all = piece(s, at, used, depth, work)?;
@@ -368,7 +371,8 @@ fn alternative(
     work: &mut Work,
 ) -> Result<Parsed, Fault>
     requires { all.at < length s.now }
-    ensures gives { Steps (alternation_more (inside depth s.now) s.now) base work.old work.new all result }
+    ensures gives { Steps (alternation_more (inside depth s.now) s.now) base work.old work.new all
+        result }
     ensures moves { Moves result all.at (length s.now) }
 {
     let more = branch(s, all.at + 1, all.used, depth, work)?;
@@ -387,7 +391,8 @@ fn alternation(
     depth: usize,
     work: &mut Work,
 ) -> Result<Parsed, Fault>
-    ensures gives { Gives (alternation_by (inside depth s.now) s.now at used) used work.old work.new result }
+    ensures gives { Gives (alternation_by (inside depth s.now) s.now at used) used work.old work.new
+        result }
     ensures moves { Moves result at (length s.now) }
     ensures whole { length work.new ≡ 1024 }
 {

@@ -18,7 +18,9 @@ Located m xs x None = Fresh m xs (length xs) x
 Located m xs x (Some k) = First m xs (length xs) x k
 
 -- the n items in use are xs before and ys after
-abbrev pub Placed : {X : Type 0} → (X → List ℕ) → List X → List X → ℕ → X → Result Found Full → Type 0
+abbrev pub Placed : {X : Type 0} → (X → List ℕ) → List X → List X → ℕ → X → Result Found Full
+    → Type 0
 Placed m xs ys n x (Ok (Old k)) = First m xs n x k × (ys ≡ xs)
-Placed m xs ys n x (Ok (New k)) = (k ≡ n) × (n < length xs) × Fresh m xs n x × (ys ≡ slice_set xs n x)
+Placed m xs ys n x (Ok (New k)) = (k ≡ n) × (n < length xs) × Fresh m xs n x
+    × (ys ≡ slice_set xs n x)
 Placed m xs ys n x (Err e) = (n ≡ length xs) × Fresh m xs n x × (ys ≡ xs)

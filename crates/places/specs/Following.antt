@@ -9,4 +9,5 @@ use Rattle.places.specs.Order.{first_of, next_of}
 abbrev pub NextStandsBehind : Type 0
 NextStandsBehind =
     (rules : List RuleText) (p : Place) (before behind : List Reading) (d : Reading) →
-    Listing rules p (before ++ (d ∷ behind)) → next_of d.rule d.total (before ++ (d ∷ behind)) ≡ first_of behind
+    Listing rules p (before ++ (d ∷ behind))
+    → next_of d.rule d.total (before ++ (d ∷ behind)) ≡ first_of behind

@@ -10,12 +10,14 @@ pub record Place : Type 0 where
   pub at_line_start : Bool
   pub rest : List ℕ
 
--- the first h of the bytes s are a string of r, and the others one of the trailing part; without one, all of s is r's
+-- the first h of the bytes s are a string of r, and the others one of the trailing part; without
+-- one, all of s is r's
 abbrev pub Splits : Expression → Option Expression → List ℕ → ℕ → Type 0
 Splits r None s h = (h ≡ length s) × Has r s
 Splits r (Some x) s h = (h ≤ length s) × Has r (take h s) × Has x (drop h s)
 
--- at the place p the rule q matches so many bytes in all, of which the head is r's: a head of at least
+-- at the place p the rule q matches so many bytes in all, of which the head is r's: a head of at
+-- least
 -- one byte, and the greatest there is
 pub record Matches (q : RuleText) (p : Place) (total head : ℕ) : Type 0 where
   pub active : q.active p.condition ≡ true
@@ -63,4 +65,5 @@ Listing rules p = IsListing (Listed rules p) p.rest
 abbrev pub OneListing : Type 0
 OneListing =
     (rules : List RuleText) (p : Place) →
-    ((ds : List Reading) × Listing rules p ds) × ((ds es : List Reading) → Listing rules p ds → Listing rules p es → ds ≡ es)
+    ((ds : List Reading) × Listing rules p ds)
+    × ((ds es : List Reading) → Listing rules p ds → Listing rules p es → ds ≡ es)

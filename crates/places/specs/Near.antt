@@ -6,8 +6,13 @@ use Rattle.places.specs.Listing.{Place, Listing}
 
 -- the place, of which 1,024 bytes are left at most
 abbrev pub near : Place → Place
-near p = record { condition = p.condition; at_line_start = p.at_line_start; rest = take 1024 p.rest }
+near p = record {
+  condition = p.condition;
+  at_line_start = p.at_line_start;
+  rest = take 1024 p.rest;
+}
 
 -- what stands behind them has no part in what is listed
 abbrev pub OnlyNear : Type 0
-OnlyNear = (rules : List RuleText) (p : Place) (ds : List Reading) → Listing rules p ds ↔ Listing rules (near p) ds
+OnlyNear = (rules : List RuleText) (p : Place) (ds : List Reading) → Listing rules p ds
+    ↔ Listing rules (near p) ds

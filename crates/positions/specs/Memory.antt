@@ -1,4 +1,5 @@
--- What each call leaves in the work memory, by membership. Set p holds the bytes that position p takes, and set 512 + p the positions that may follow it.
+-- What each call leaves in the work memory, by membership. Set p holds the bytes that position p
+-- takes, and set 512 + p the positions that may follow it.
 use Rattle.std.specs.Prelude.{◌≡◌, ℕ, ◌+◌, ◌-◌, Bool, true, false, cond, ◌&&◌, ◌||◌, List, [], length, ◌==◌, nat_le, nat_lt, slice_index_or}
 use Rattle.bits.specs.Set.{has}
 use Rattle.bits.specs.declared.Bits.{Bits}
@@ -25,17 +26,21 @@ pub record Leaf (w w' : Work) (p : ℕ) (b : List ℕ) (f : Fragment) : Type 0 w
   pub nullable : f.nullable ≡ false
   pub first : (q : ℕ) → has f.first.words q ≡ (q == p && nat_lt p 512)
   pub last : (q : ℕ) → has f.last.words q ≡ (q == p && nat_lt p 512)
-  pub memory : (k q : ℕ) → member w' k q ≡ cond ((roomy w && nat_lt p 512) && k == p) (has b q) (cond ((roomy w && nat_lt p 512) && k == 512 + p) false (member w k q))
+  pub memory : (k q : ℕ) → member w' k q ≡ cond ((roomy w && nat_lt p 512)
+      && k == p) (has b q) (cond ((roomy w && nat_lt p 512) && k == 512 + p) false (member w k q))
 
 -- each of the positions `ends` may be followed by each of `starts`
 abbrev pub Linked : Work → Work → List ℕ → List ℕ → Type 0
-Linked w w' ends starts = (k q : ℕ) → member w' k q ≡ (member w k q || ((roomy w && between 512 1024 k) && (has ends (k - 512) && has starts q)))
+Linked w w' ends starts = (k q : ℕ) → member w' k q ≡ (member w k q
+    || ((roomy w && between 512 1024 k) && (has ends (k - 512) && has starts q)))
 
 -- x, and then y
 pub record Sequence (w w' : Work) (x y f : Fragment) : Type 0 where
   pub nullable : f.nullable ≡ (x.nullable && y.nullable)
-  pub first : (q : ℕ) → has f.first.words q ≡ (has x.first.words q || (x.nullable && has y.first.words q))
-  pub last : (q : ℕ) → has f.last.words q ≡ ((y.nullable && has x.last.words q) || has y.last.words q)
+  pub first : (q : ℕ) → has f.first.words q ≡ (has x.first.words q
+      || (x.nullable && has y.first.words q))
+  pub last : (q : ℕ) → has f.last.words q ≡ ((y.nullable && has x.last.words q)
+      || has y.last.words q)
   pub memory : Linked w w' x.last.words y.first.words
 
 -- x or y
@@ -59,9 +64,11 @@ pub record Repeats (r : Repeat) (w w' : Work) (x f : Fragment) : Type 0 where
   pub nullable : f.nullable ≡ (empties r || x.nullable)
   pub first : (q : ℕ) → has f.first.words q ≡ has x.first.words q
   pub last : (q : ℕ) → has f.last.words q ≡ has x.last.words q
-  pub memory : (k q : ℕ) → member w' k q ≡ (member w k q || ((goes_round r && (roomy w && between 512 1024 k)) && (has x.last.words (k - 512) && has x.first.words q)))
+  pub memory : (k q : ℕ) → member w' k q ≡ (member w k q || ((goes_round r
+      && (roomy w && between 512 1024 k)) && (has x.last.words (k - 512) && has x.first.words q)))
 
--- the n positions from `from` on, once more, each moved up by `by`; they must not overlap, and stay below 512
+-- the n positions from `from` on, once more, each moved up by `by`; they must not overlap, and stay
+-- below 512
 abbrev pub copiable : Work → ℕ → ℕ → ℕ → Bool
 copiable w from n by = roomy w && (nat_le n by && nat_le (from + n + by) 512)
 

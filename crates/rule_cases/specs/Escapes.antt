@@ -37,13 +37,15 @@ paired n None low = None
 
 -- the byte of the two hexadecimal digits at n
 abbrev pub hexadecimal_at : List ℕ → ℕ → Option (Read ℕ)
-hexadecimal_at s n = cond (nat_lt (n + 1) (length s)) (paired (n + 2) (digit_of (slice_index s n)) (digit_of (slice_index s (n + 1)))) None
+hexadecimal_at s n = cond (nat_lt (n + 1) (length s))
+    (paired (n + 2) (digit_of (slice_index s n)) (digit_of (slice_index s (n + 1)))) None
 
 -- behind a `~`, n being the place of the letter
 abbrev pub escape_at : List ℕ → ℕ → Option (Read ℕ)
 escape_at s n =
     cond (nat_lt n (length s))
-    (cond (slice_index s n == byte "x") (hexadecimal_at s (n + 1)) (before (n + 1) (named_by (slice_index s n))))
+    (cond (slice_index s n == byte "x") (hexadecimal_at s (n + 1))
+    (before (n + 1) (named_by (slice_index s n))))
     None
 
 -- the byte that is meant at n

@@ -7,7 +7,8 @@ use Rattle.rule_cases.specs.Escapes.{bracket_at, meant, unit_at}
 -- from `from` up to a place these bytes are meant, one by one
 pub data Spells (s : List ℕ) (from : ℕ) : ℕ → List ℕ → Type 0 where
   nothing : Spells s from from []
-  one : {n : ℕ} {bs : List ℕ} (m b : ℕ) → Spells s from n bs → unit_at s n ≡ meant m b → Spells s from m (bs ++ (b ∷ []))
+  one : {n : ℕ} {bs : List ℕ} (m b : ℕ) → Spells s from n bs → unit_at s n ≡ meant m b
+      → Spells s from m (bs ++ (b ∷ []))
 
 -- from `from` up to a place stand the decimal digits of this number
 pub data Counts (s : List ℕ) (from : ℕ) : ℕ → ℕ → Type 0 where
@@ -43,4 +44,5 @@ pub record Added (s : List ℕ) (from m : ℕ) (old new : List ℕ) : Type 0 whe
 pub data Means (s : List ℕ) : ℕ → List ℕ → Type 0 where
   empty : Means s 0 []
   units : (n m : ℕ) (old new : List ℕ) → Means s n old → Added s n m old new → Means s m new
-  run : (n m : ℕ) (old new : List ℕ) → Means s n old → bracket_at s n (byte "[") ≡ true → Run s (n + 2) m old new → Means s m new
+  run : (n m : ℕ) (old new : List ℕ) → Means s n old → bracket_at s n (byte "[") ≡ true
+      → Run s (n + 2) m old new → Means s m new

@@ -98,7 +98,8 @@ fn units(text: &[u8], from: usize, out: &mut Vec<u8>) -> anyhow::Result<usize>
 
 // The count at `from`, at most 9,999, and the place of the `|` behind it.
 fn count(text: &[u8], from: usize) -> Option<Read<usize>>
-    ensures { IfSome result (λ k. Counts text.now from k.next k.value × (stands text.now k.next 124 ≡ true) × (from ≤ k.next)) }
+    ensures { IfSome result (λ k. Counts text.now from k.next k.value
+        × (stands text.now k.next 124 ≡ true) × (from ≤ k.next)) }
 {
     let mut times = 0;
     for (n, b) in text.get(from..)?.iter().enumerate() {

@@ -30,14 +30,16 @@ abbrev pub row_at : List Row → ℕ → Row
 row_at rs k = slice_index_or rs k record { next = []; ends = 0; slashes = 0 }
 
 abbrev pub rule_at : Loaded → ℕ → Rule
-rule_at l i = slice_index_or l.rules i record { conditions = record { words = [] }; anchored = false; trail = 0; steps = [] }
+rule_at l i = slice_index_or l.rules i record
+    { conditions = record { words = [] }; anchored = false; trail = 0; steps = [] }
 
 abbrev pub start_at : Loaded → ℕ → StartRows
 start_at l c = slice_index_or l.starts c record { inside = 0; at_line_start = 0 }
 
 -- the counts fit the memory, which has n rows, and INITIAL is always there
 abbrev pub CountsFit : Loaded → ℕ → Type 0
-CountsFit l n = (l.row_count ≤ n) × (l.rule_count ≤ 64) × (1 ≤ l.condition_count) × (l.condition_count ≤ 8)
+CountsFit l n = (l.row_count ≤ n) × (l.rule_count ≤ 64) × (1 ≤ l.condition_count)
+    × (l.condition_count ≤ 8)
 
 -- each start row is one of n rows, or 0
 abbrev pub StartIn : ℕ → StartRows → Type 0
@@ -85,5 +87,6 @@ RulesBeginIn l = (i : ℕ) → i < 64 → BeginsIn l.condition_count (rule_at l 
 -- the memory names no row, rule or condition that it lacks
 abbrev pub IsTable : Memory → Type 0
 IsTable m =
-    CountsFit m.loaded (length m.rows) × StartsIn m.loaded × TrailsIn m.loaded × RowsLeadIn m.loaded m.rows ×
+    CountsFit m.loaded (length m.rows) × StartsIn m.loaded × TrailsIn m.loaded
+    × RowsLeadIn m.loaded m.rows ×
     MarksIn m.loaded m.rows × RulesActiveIn m.loaded × RulesBeginIn m.loaded

@@ -9,7 +9,13 @@ unfoldable pub no_row : Row
 no_row = record { next = replicate 256 0; ends = 0; slashes = 0 }
 
 unfoldable pub no_rule : Rule
-no_rule = record { conditions = record { words = replicate 1 0 }; anchored = false; trail = 0; steps = replicate 10 None }
+no_rule = record {
+  conditions = record { words = replicate 1 0 };
+  anchored = false;
+  trail = 0;
+  steps
+      = replicate 10 None;
+}
 
 unfoldable pub no_start : StartRows
 no_start = record { inside = 0; at_line_start = 0 }

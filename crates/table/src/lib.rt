@@ -33,7 +33,8 @@ impl From<NotTable> for u8 {
 
 // Whether memory is a table's, that is, whether it names only what it has.
 pub fn check(loaded: &Loaded, rows: &[Row]) -> Result<(), NotTable>
-    ensures { MatchResult result (λ _. IsTable (memory loaded.now rows.now)) (λ e. (e ≡ Lacking) × (IsTable (memory loaded.now rows.now) → ⊥)) }
+    ensures { MatchResult result (λ _. IsTable (memory loaded.now rows.now)) (λ e. (e ≡ Lacking)
+        × (IsTable (memory loaded.now rows.now) → ⊥)) }
 {
     if is_whole(loaded, rows) {
         Ok(())
@@ -43,7 +44,8 @@ pub fn check(loaded: &Loaded, rows: &[Row]) -> Result<(), NotTable>
 }
 
 fn is_whole(loaded: &Loaded, rows: &[Row]) -> bool
-    ensures { MatchBool result (IsTable (memory loaded.now rows.now)) (IsTable (memory loaded.now rows.now) → ⊥) }
+    ensures { MatchBool result (IsTable (memory loaded.now rows.now))
+        (IsTable (memory loaded.now rows.now) → ⊥) }
 {
     counts_fit(loaded, rows.len())
         && starts_in(loaded)
@@ -89,7 +91,8 @@ fn trails_in(loaded: &Loaded) -> bool
 // This and `marks_in`, `rules_active_in` and `rules_begin_in` stay four: each decides its own part of IsTable, and one function
 // over the test would take the same closures.
 fn rows_lead_in(loaded: &Loaded, rows: &[Row]) -> bool
-    ensures { MatchBool result (RowsLeadIn loaded.now rows.now) (RowsLeadIn loaded.now rows.now → ⊥) }
+    ensures { MatchBool result (RowsLeadIn loaded.now rows.now) (RowsLeadIn loaded.now rows.now
+        → ⊥) }
 {
     rows.iter()
         .take(loaded.row_count)
@@ -135,7 +138,8 @@ fn rules_active_in(loaded: &Loaded) -> bool
 
 #[tactic(auto, using(crate::proofs::Active::first_active))]
 fn active_in(active: ConditionSet, conditions: usize) -> bool
-    ensures { MatchBool result (ActiveIn conditions active.words) (ActiveIn conditions active.words → ⊥) }
+    ensures { MatchBool result (ActiveIn conditions active.words) (ActiveIn conditions active.words
+        → ⊥) }
 {
     active.next(conditions).is_none()
 }
@@ -150,7 +154,8 @@ fn rules_begin_in(loaded: &Loaded) -> bool
 }
 
 fn begins_in(rule: &Rule, conditions: usize) -> bool
-    ensures { MatchBool result (BeginsIn conditions rule.now.steps) (BeginsIn conditions rule.now.steps → ⊥) }
+    ensures { MatchBool result (BeginsIn conditions rule.now.steps)
+        (BeginsIn conditions rule.now.steps → ⊥) }
 {
     rule.steps.iter().all(|step| step_in(*step, conditions))
 }

@@ -46,7 +46,8 @@ impl<'a> Table<'a> {
 
     /// At the row of this number, counted from 1, if the table stores it.
     pub fn at(&self, row: u16) -> Option<Walk<'_>>
-        ensures { MatchOption result (IsStored (memory_of self.now) row → ⊥) (λ w. (w.table.now ≡ self.now) × (w.row ≡ row)) }
+        ensures { MatchOption result (IsStored (memory_of self.now) row
+            → ⊥) (λ w. (w.table.now ≡ self.now) × (w.row ≡ row)) }
     {
         if row as usize > self.rows.len() {
             return None;
@@ -87,7 +88,8 @@ impl<'a> Walk<'a> {
 
     /// Where a byte leads; None where nothing goes on.
     pub fn step(&self, b: u8) -> Option<Walk<'a>>
-        ensures { StandsAt self.now.table.now (next_row (memory_of self.now.table.now) self.now.row b) result }
+        ensures { StandsAt self.now.table.now
+            (next_row (memory_of self.now.table.now) self.now.row b) result }
     {
         let row = self.stored().next[b as usize];
         if row == 0 {
