@@ -6,7 +6,7 @@ use Rattle.grammar.specs.File.{RuleText}
 use Rattle.automaton.specs.Sets.{Set, empty, same}
 use Rattle.automaton.specs.Numbering.{stored, meet, meet_all, starts, trails, none, leads_from, grown, row_sets}
 use Rattle.automaton.specs.Theorems.{Known}
-use Rattle.automaton.specs.Order.{Meeting, by_start, by_trail, by_byte, TakesPlace, met_at, turn, Before, Sooner, FirstMeeting, InOrder, RowsInOrder}
+use Rattle.automaton.specs.Order.{Meeting, by_start, by_trail, by_byte, TakesPlace, met_at, turn, TurnBefore, Sooner, FirstMeeting, InOrder, RowsInOrder}
 use Rattle.automaton.proofs.Members.{same_refl, same_empty}
 use Rattle.automaton.proofs.Meeting.{Front, front_trans, front_length, front_get_or, front_known, known_or_new, meet_old, meet_new, meet_front, meet_known, meet_all_append, meet_all_front, meet_all_length, grown_stop, grown_step, grown_front}
 use Rattle.automaton.proofs.Alike.{alike_same, alike_stored}
@@ -16,8 +16,8 @@ use Rattle.automaton.proofs.Turns.{before_more, sooner_either}
 -- the meetings before the turn t gave the rows rs, which are the first of us
 record Held (qs : List RuleText) (conditions : ℕ) (us rs : List Set) (t : ℕ × ℕ × ℕ) : Type 0 where
   front : Front rs us
-  complete : (m : Meeting) → TakesPlace qs conditions us m → Before (turn m) t → Known rs (met_at qs us m)
-  met : (k : ℕ) → k < length rs → (m : Meeting) × FirstMeeting qs conditions us k m × Before (turn m) t
+  complete : (m : Meeting) → TakesPlace qs conditions us m → TurnBefore (turn m) t → Known rs (met_at qs us m)
+  met : (k : ℕ) → k < length rs → (m : Meeting) × FirstMeeting qs conditions us k m × TurnBefore (turn m) t
   in_order : (j k : ℕ) (m n : Meeting) → j < k → k < length rs → FirstMeeting qs conditions us j m → FirstMeeting qs conditions us k n → Sooner m n
 
 -- a set that is the same as a known one is known
@@ -44,7 +44,7 @@ module _ (qs : List RuleText) (conditions : ℕ) (us : List Set) where
   Holds rs t = Held qs conditions us rs t
 
   -- to a later turn, with no meeting in between
-  later : (rs : List Set) (t u : ℕ × ℕ × ℕ) → Before t u → ((m : Meeting) → TakesPlace qs conditions us m → Before (turn m) u → Before (turn m) t) → Holds rs t → Holds rs u
+  later : (rs : List Set) (t u : ℕ × ℕ × ℕ) → TurnBefore t u → ((m : Meeting) → TakesPlace qs conditions us m → TurnBefore (turn m) u → TurnBefore (turn m) t) → Holds rs t → Holds rs u
   later rs t u up none_between h = record {
     front = h.front;
     complete = λ m takes lt. h.complete m takes (none_between m takes lt);
@@ -53,8 +53,8 @@ module _ (qs : List RuleText) (conditions : ℕ) (us : List Set) where
   }
 
   -- a meeting m, and nothing between it and the turn u
-  module _ (m : Meeting) (takes : TakesPlace qs conditions us m) (u : ℕ × ℕ × ℕ) (up : Before (turn m) u) (none_between : (n : Meeting) → Sooner m n → Before (turn n) u → ⊥) where
-    up_to : (n : Meeting) → Before (turn n) u → Sooner n m ⊎ (n ≡ m)
+  module _ (m : Meeting) (takes : TakesPlace qs conditions us m) (u : ℕ × ℕ × ℕ) (up : TurnBefore (turn m) u) (none_between : (n : Meeting) → Sooner m n → TurnBefore (turn n) u → ⊥) where
+    up_to : (n : Meeting) → TurnBefore (turn n) u → Sooner n m ⊎ (n ≡ m)
     up_to n lt = elim (sooner_either n m) [
       | inl h ↦ inl h
       | inr (inl e) ↦ inr e
@@ -62,13 +62,13 @@ module _ (qs : List RuleText) (conditions : ℕ) (us : List Set) where
     ]
 
     module _ (rs : List Set) (low : (row byte : ℕ) → m ≡ by_byte row byte → row < length rs) (h : Holds rs (turn m)) where
-      complete_there : (n : Meeting) → TakesPlace qs conditions us n → Before (turn n) u → Known (meet rs (met_at qs us m)) (met_at qs us n)
+      complete_there : (n : Meeting) → TakesPlace qs conditions us n → TurnBefore (turn n) u → Known (meet rs (met_at qs us m)) (met_at qs us n)
       complete_there n there lt = elim (up_to n lt) [
         | inl sooner ↦ front_known rs (meet rs (met_at qs us m)) (meet_front rs (met_at qs us m)) (met_at qs us n) (h.complete n there sooner)
         | inr e ↦ subst (λ (x : Meeting). Known (meet rs (met_at qs us m)) (met_at qs us x)) (sym e) (meet_known rs (met_at qs us m))
       ]
 
-      met_old : (k : ℕ) → k < length rs → (n : Meeting) × FirstMeeting qs conditions us k n × Before (turn n) u
+      met_old : (k : ℕ) → k < length rs → (n : Meeting) × FirstMeeting qs conditions us k n × TurnBefore (turn n) u
       met_old k lt = let q = h.met k lt in (q.0, q.1, before_more (turn q.0) (turn m) u q.2 up)
 
       -- an old set adds no row
@@ -103,7 +103,7 @@ module _ (qs : List RuleText) (conditions : ℕ) (us : List Set) where
           first = λ n there sooner. subst (λ (x : Set). same x (met_at qs us n) ≡ false) (sym the_row) (unlike rs (met_at qs us m) (met_at qs us n) filled fresh (h.complete n there sooner));
         }
 
-        met_new : (k : ℕ) → k < length (meet rs (met_at qs us m)) → (n : Meeting) × FirstMeeting qs conditions us k n × Before (turn n) u
+        met_new : (k : ℕ) → k < length (meet rs (met_at qs us m)) → (n : Meeting) × FirstMeeting qs conditions us k n × TurnBefore (turn n) u
         met_new k lt = elim (cases_lt k (length rs)) [
           | inl before ↦ met_old k before
           | inr past ↦
@@ -144,10 +144,10 @@ module _ (qs : List RuleText) (conditions : ℕ) (us : List Set) where
       front_away : Front away us
       front_away = front_trans away there us (meet_front away (met_at qs us (by_start c true))) front_there
 
-      none_away : (m : Meeting) → Sooner (by_start c false) m → Before (turn m) (0, c, 1) → ⊥
+      none_away : (m : Meeting) → Sooner (by_start c false) m → TurnBefore (turn m) (0, c, 1) → ⊥
       none_away m a b = omega arith
 
-      none_there : (m : Meeting) → Sooner (by_start c true) m → Before (turn m) (0, suc c, 0) → ⊥
+      none_there : (m : Meeting) → Sooner (by_start c true) m → TurnBefore (turn m) (0, suc c, 0) → ⊥
       none_there (by_start d false) a b = omega arith
       none_there (by_start d true) a b = omega arith
       none_there (by_trail i) a b = omega arith
@@ -166,7 +166,7 @@ module _ (qs : List RuleText) (conditions : ℕ) (us : List Set) where
       there : List Set
       there = meet rs (met_at qs us (by_trail i))
 
-      none_there : (m : Meeting) → Sooner (by_trail i) m → Before (turn m) (1, suc i, 0) → ⊥
+      none_there : (m : Meeting) → Sooner (by_trail i) m → TurnBefore (turn m) (1, suc i, 0) → ⊥
       none_there (by_start d false) a b = omega arith
       none_there (by_start d true) a b = omega arith
       none_there (by_trail j) a b = omega arith
@@ -188,7 +188,7 @@ module _ (qs : List RuleText) (conditions : ℕ) (us : List Set) where
       there : List Set
       there = meet rs s
 
-      none_there : (m : Meeting) → Sooner (by_byte k b) m → Before (turn m) (2, k, suc b) → ⊥
+      none_there : (m : Meeting) → Sooner (by_byte k b) m → TurnBefore (turn m) (2, k, suc b) → ⊥
       none_there m a c = omega arith
 
       low : (j c : ℕ) → by_byte k b ≡ by_byte j c → j < length rs
@@ -224,7 +224,7 @@ module _ (qs : List RuleText) (conditions : ℕ) (us : List Set) where
           front : Front (meet_all rs ss) us
           front = subst (Front (meet_all rs ss)) (sym (grown_step qs most n k rs here few) ∙ e) (grown_front qs most n (suc k) (meet_all rs ss))
 
-          no_more : (m : Meeting) → TakesPlace qs conditions us m → Before (turn m) (2, suc k, 0) → Before (turn m) (2, k, 256)
+          no_more : (m : Meeting) → TakesPlace qs conditions us m → TurnBefore (turn m) (2, suc k, 0) → TurnBefore (turn m) (2, k, 256)
           no_more (by_start d false) takes b = inl (omega arith)
           no_more (by_start d true) takes b = inl (omega arith)
           no_more (by_trail j) takes b = inl (omega arith)
@@ -257,13 +257,13 @@ module _ (qs : List RuleText) (conditions : ℕ) (us : List Set) where
       front_begun : Front begun_rows us
       front_begun = front_trans begun_rows both us (meet_all_front begun_rows (trails qs 0 (length qs))) front_both
 
-      starts_done : (m : Meeting) → TakesPlace qs conditions us m → Before (turn m) (1, 0, 0) → Before (turn m) (0, conditions, 0)
+      starts_done : (m : Meeting) → TakesPlace qs conditions us m → TurnBefore (turn m) (1, 0, 0) → TurnBefore (turn m) (0, conditions, 0)
       starts_done (by_start d false) takes b = inr (refl, inl takes)
       starts_done (by_start d true) takes b = inr (refl, inl takes)
       starts_done (by_trail j) takes b = absurd (omega arith)
       starts_done (by_byte j c) takes b = absurd (omega arith)
 
-      trails_done : (m : Meeting) → TakesPlace qs conditions us m → Before (turn m) (2, 0, 0) → Before (turn m) (1, length qs, 0)
+      trails_done : (m : Meeting) → TakesPlace qs conditions us m → TurnBefore (turn m) (2, 0, 0) → TurnBefore (turn m) (1, length qs, 0)
       trails_done (by_start d false) takes b = inl (omega arith)
       trails_done (by_start d true) takes b = inl (omega arith)
       trails_done (by_trail j) takes b = inr (refl, inl takes)
@@ -279,7 +279,7 @@ module _ (qs : List RuleText) (conditions : ℕ) (us : List Set) where
       after_trails = trails_held (length qs) 0 begun_rows (omega arith) front_both after_starts
 
   -- when all have taken place
-  all_before : (m : Meeting) → TakesPlace qs conditions us m → Before (turn m) (2, length us, 0)
+  all_before : (m : Meeting) → TakesPlace qs conditions us m → TurnBefore (turn m) (2, length us, 0)
   all_before (by_start d false) takes = inl (omega arith)
   all_before (by_start d true) takes = inl (omega arith)
   all_before (by_trail j) takes = inl (omega arith)

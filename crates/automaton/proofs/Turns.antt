@@ -1,11 +1,11 @@
 -- Of two meetings one is sooner than the other, unless they are one.
 use Rattle.std.proofs.Common.{◌≡◌, ℕ, true, false, ◌⊎◌, ap, inl, inr, arith}
-use Rattle.automaton.specs.Order.{Meeting, by_start, by_trail, by_byte, turn, Before, Sooner}
+use Rattle.automaton.specs.Order.{Meeting, by_start, by_trail, by_byte, turn, TurnBefore, Sooner}
 
-before_either : (s t : ℕ × ℕ × ℕ) → Before s t ⊎ ((s.0 ≡ t.0) × (s.1 ≡ t.1) × (s.2 ≡ t.2)) ⊎ Before t s
+before_either : (s t : ℕ × ℕ × ℕ) → TurnBefore s t ⊎ ((s.0 ≡ t.0) × (s.1 ≡ t.1) × (s.2 ≡ t.2)) ⊎ TurnBefore t s
 before_either s t = grind arith
 
-pub before_more : (s t u : ℕ × ℕ × ℕ) → Before s t → Before t u → Before s u
+pub before_more : (s t u : ℕ × ℕ × ℕ) → TurnBefore s t → TurnBefore t u → TurnBefore s u
 before_more s t u h k = grind arith
 
 -- one turn, one meeting

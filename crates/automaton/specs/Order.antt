@@ -27,11 +27,11 @@ turn (by_trail rule) = (1, rule, 0)
 turn (by_byte row byte) = (2, row, byte)
 
 -- turn s is before turn t: of the numbers that differ, the first is less
-abbrev pub Before : ℕ × ℕ × ℕ → ℕ × ℕ × ℕ → Type 0
-Before s t = (s.0 < t.0) ⊎ ((s.0 ≡ t.0) × ((s.1 < t.1) ⊎ ((s.1 ≡ t.1) × (s.2 < t.2))))
+abbrev pub TurnBefore : ℕ × ℕ × ℕ → ℕ × ℕ × ℕ → Type 0
+TurnBefore s t = (s.0 < t.0) ⊎ ((s.0 ≡ t.0) × ((s.1 < t.1) ⊎ ((s.1 ≡ t.1) × (s.2 < t.2))))
 
 abbrev pub Sooner : Meeting → Meeting → Type 0
-Sooner m n = Before (turn m) (turn n)
+Sooner m n = TurnBefore (turn m) (turn n)
 
 -- with these rules, so many conditions and these sets as rows
 module _ (qs : List RuleText) (conditions : ℕ) (rs : List Set) where
