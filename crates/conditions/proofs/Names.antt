@@ -8,7 +8,7 @@ use Rattle.std.proofs.lemmas.Slice.Eq.{bytes_eq-Decides}
 use Rattle.std.specs.Str.{bytes_eq}
 use Rattle.bits.specs.Set.{has}
 use Rattle.finder.specs.declared.name.Name.{Name}
-use Rattle.finder.specs.Placed.{Fresh, First}
+use Rattle.finder.specs.Placed.{Fresh, FirstFound}
 use Rattle.grammar.specs.declared.Read.{Read}
 use Rattle.grammar.specs.declared.Refusal.TheVariants.{UnknownName, DeclaredAgain, LimitPassed}
 use Rattle.grammar.specs.Outcome.{refused}
@@ -33,7 +33,7 @@ module _ (x : Name) where
       let i : numbered (map text (take n ys)) (text x) ≡ None = numbered_none ys n (λ k d l u. h (suc k) d (omega arith) (omega arith)) in
       rw (e, i)
 
-  pub numbered_some : (xs : List Name) (n k : ℕ) → First text xs (min n (length xs)) x k → numbered (map text (take n xs)) (text x) ≡ Some k
+  pub numbered_some : (xs : List Name) (n k : ℕ) → FirstFound text xs (min n (length xs)) x k → numbered (map text (take n xs)) (text x) ≡ Some k
   numbered_some xs zero k f = let z : k < min 0 (length xs) = f.0 in absurd (omega arith)
   numbered_some [] (suc n) k f = let z : k < min (suc n) 0 = f.0 in absurd (omega arith)
   numbered_some (y ∷ ys) (suc n) zero f =
@@ -50,7 +50,7 @@ module _ (x : Name) where
     pub located_none : Fresh text (take m xs) (length (take m xs)) x → numbered (map text (take n xs)) (text x) ≡ None
     located_none h = rw (take_all (length (take m xs)) (take m xs) (omega arith), same) at (numbered_none (take m xs) (length (take m xs)) (λ k d l u. h k d l (omega arith)))
 
-    pub located_some : (k : ℕ) → First text (take m xs) (length (take m xs)) x k → numbered (map text (take n xs)) (text x) ≡ Some k
+    pub located_some : (k : ℕ) → FirstFound text (take m xs) (length (take m xs)) x k → numbered (map text (take n xs)) (text x) ≡ Some k
     located_some k f = rw (take_all (length (take m xs)) (take m xs) (omega arith), same) at (numbered_some (take m xs) (length (take m xs)) k (omega (arith, f.0), f.1, f.2))
 
 module _ (s : List ℕ) (c : Conditions) (n : ℕ) (x : Read Name) (a : NameAt s n x) where
@@ -72,7 +72,7 @@ module _ (s : List ℕ) (c : Conditions) (n : ℕ) (x : Read Name) (a : NameAt s
       let i = numbered_at None f in
       rw (e, i)
 
-  pub again_is : (inclusive : Bool) (k : ℕ) → First text c.names (min c.count (length c.names)) x.value k → refused DeclaredAgain n ≡ declare_at s inclusive (known c) n
+  pub again_is : (inclusive : Bool) (k : ℕ) → FirstFound text c.names (min c.count (length c.names)) x.value k → refused DeclaredAgain n ≡ declare_at s inclusive (known c) n
   again_is inclusive k f =
       let e = a.some in
       let i = numbered_at (Some k) (numbered_some x.value c.names c.count k f) in

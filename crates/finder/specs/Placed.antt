@@ -10,17 +10,17 @@ abbrev pub Fresh : {X : Type 0} → (X → List ℕ) → List X → ℕ → X �
 Fresh m xs n x = AllWithin (λ y. m y ≢ m x) xs 0 n
 
 -- k is the first of the first n that means what x means
-abbrev pub First : {X : Type 0} → (X → List ℕ) → List X → ℕ → X → ℕ → Type 0
-First m xs n x k = (k < n) × HoldsAt (λ y. m y ≡ m x) xs k × Fresh m xs k x
+abbrev pub FirstFound : {X : Type 0} → (X → List ℕ) → List X → ℕ → X → ℕ → Type 0
+FirstFound m xs n x k = (k < n) × HoldsAt (λ y. m y ≡ m x) xs k × Fresh m xs k x
 
 abbrev pub Located : {X : Type 0} → (X → List ℕ) → List X → X → Option ℕ → Type 0
 Located m xs x None = Fresh m xs (length xs) x
-Located m xs x (Some k) = First m xs (length xs) x k
+Located m xs x (Some k) = FirstFound m xs (length xs) x k
 
 -- the n items in use are xs before and ys after
 abbrev pub Placed : {X : Type 0} → (X → List ℕ) → List X → List X → ℕ → X → Result Found Full
     → Type 0
-Placed m xs ys n x (Ok (Old k)) = First m xs n x k × (ys ≡ xs)
+Placed m xs ys n x (Ok (Old k)) = FirstFound m xs n x k × (ys ≡ xs)
 Placed m xs ys n x (Ok (New k)) = (k ≡ n) × (n < length xs) × Fresh m xs n x
     × (ys ≡ slice_set xs n x)
 Placed m xs ys n x (Err e) = (n ≡ length xs) × Fresh m xs n x × (ys ≡ xs)

@@ -70,7 +70,7 @@ module _ (w : Work) (n : ℕ) (x : Bits 8) (s : Stored w n) (h : Whole 8 x.words
   row_words : (k : ℕ) → k < n → same (get_or (rows_of w n) k none) (members x) ≡ true → (get_or w k nil).words ≡ x.words
   row_words k lt e = words_same (get_or w k nil).words x.words (s.whole k lt) h (subst (λ (r : Set). same r (members x) ≡ true) (rows_at w n s.room k lt) e)
 
-  found_first : (k : ℕ) → finder.First words_of w n x k → FirstSame (rows_of w n) (members x) k
+  found_first : (k : ℕ) → finder.FirstFound words_of w n x k → FirstSame (rows_of w n) (members x) k
   found_first k g = record {
     within = omega (arith, rows_length w n s.room, g.0);
     equal = subst (λ (r : Set). same r (members x) ≡ true) (sym (rows_at w n s.room k g.0)) (subst (λ (ws : List ℕ). same (has ws) (members x) ≡ true) (sym (g.1 nil)) (same_refl (members x)));
@@ -95,7 +95,7 @@ module _ (w : Work) (n : ℕ) (x : Bits 8) (s : Stored w n) (h : Whole 8 x.words
     | inr f ↦ absurd (false≢true (sym (stored_none (rows_of w n) (members x) f k g.within) ∙ g.equal))
   ])
 
-  pub met_old : (k : ℕ) → empty (members x) ≡ false → finder.First words_of w n x k → MetAs (rows_of w n) (members x) w (record { number = k + 1; count = n })
+  pub met_old : (k : ℕ) → empty (members x) ≡ false → finder.FirstFound words_of w n x k → MetAs (rows_of w n) (members x) w (record { number = k + 1; count = n })
   met_old k e f =
       let q = found_first k f in
       let old : meet (rows_of w n) (members x) ≡ rows_of w n = meet_old (rows_of w n) (members x) (found_known k q) in
