@@ -1,6 +1,6 @@
 -- The first of a listing, and the first one behind a reading, among the readings of rules and then the single byte.
-use Rattle.std.proofs.Common.{◌≡◌, ℕ, zero, suc, ◌≤◌, Bool, true, false, cond, ◌≢◌, List, [], ◌∷◌, ◌++◌, None, Option, slice_get, sym, refl, ap, ◌∙◌, arith, ne_eqb}
-use Rattle.std.specs.List.{find}
+use Rattle.std.proofs.Common.{◌≡◌, ℕ, zero, suc, ◌≤◌, Bool, true, false, cond, ◌≢◌, List, [], ◌∷◌, ◌++◌, None, Option, slice_get, sym, refl, ap, ◌∙◌, arith, ne_eqb, Some}
+use Rattle.std.specs.List.{filter, find}
 use Rattle.std.specs.Option.{option_or}
 use Rattle.table.specs.Memory.{Memory}
 use Rattle.places.specs.declared.Reading.{Reading}
@@ -8,7 +8,9 @@ use Rattle.places.specs.Listing.{Place, last_resort}
 use Rattle.places.specs.Order.{comes_after, first_of, next_of}
 use Rattle.scan.specs.Listed.{ended}
 use Rattle.scan.specs.Listing.{reading, of_total, up_to, of_rules, table_listing}
+use Rattle.scan.specs.Left.{behind}
 use Rattle.scan.proofs.Seeking.{find_append}
+use Rattle.scan.proofs.Behind.{first_found}
 
 -- tests that answer alike find the same
 find_alike : {X : Type 0} (test other : X → Bool) (b : Bool) (x : X) (xs : List X) → test x ≡ other x → find test xs ≡ find other xs → find test (cond b (x ∷ xs) xs) ≡ find other (cond b (x ∷ xs) xs)
@@ -47,6 +49,33 @@ none_after rule total z ds = sym (ap (λ r. next_of r total ds) z ∙ none_after
 single_after : (rule total : ℕ) → rule ≢ 0 → (rest : List ℕ) → next_of rule total (last_resort rest) ≡ first_of (last_resort rest)
 single_after rule total n [] = refl
 single_after rule total n (b ∷ rest) = rw (ne_eqb rule 0 n)
+
+-- ---- what is left behind the reading that was given last
+filter_append : (test : Reading → Bool) (ds es : List Reading) → filter test (ds ++ es) ≡ filter test ds ++ filter test es
+filter_append test [] es = refl
+filter_append test (d ∷ ds) es = case (test d) (filter_append test ds es)
+  where
+    case : (b : Bool) → filter test (ds ++ es) ≡ filter test ds ++ filter test es
+        → cond b (d ∷ filter test (ds ++ es)) (filter test (ds ++ es)) ≡ cond b (d ∷ filter test ds) (filter test ds) ++ filter test es
+    case true e = ap (λ (l : List Reading). d ∷ l) e
+    case false e = e
+
+behind_append : (last : Option Reading) (ds es : List Reading) → behind last (ds ++ es) ≡ behind last ds ++ behind last es
+behind_append None ds es = refl
+behind_append (Some d) ds es = filter_append (comes_after d.rule d.total) ds es
+
+-- a is the first of the readings of rules that are left, and b the single byte, where it is left
+pub left_first : (last : Option Reading) (ds es : List Reading) (a b : Option Reading) → a ≡ first_of (behind last ds) → b ≡ first_of (behind last es)
+    → option_or a b ≡ first_of (behind last (ds ++ es))
+left_first last ds es a b e f =
+    ap (λ o. option_or o b) e ∙ ap (option_or (first_of (behind last ds))) f
+    ∙ sym (ap first_of (behind_append last ds es) ∙ first_append (behind last ds) (behind last es))
+
+pub resort_over : (d : Reading) (ds : List Reading) → d.rule ≡ 0 → None ≡ first_of (behind (Some d) ds)
+resort_over d ds z = none_after d.rule d.total z ds ∙ sym (first_found (comes_after d.rule d.total) ds)
+
+pub resort_left : (d : Reading) (rest : List ℕ) → d.rule ≢ 0 → first_of (last_resort rest) ≡ first_of (behind (Some d) (last_resort rest))
+resort_left d rest ruled = sym (first_found (comes_after d.rule d.total) (last_resort rest) ∙ single_after d.rule d.total ruled rest)
 
 -- a is the reading of a rule, where there is one
 module _ (mem : Memory) (p : Place) (a : Option Reading) where

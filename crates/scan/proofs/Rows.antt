@@ -1,9 +1,12 @@
 -- The rows that are met, byte by byte.
-use Rattle.std.proofs.Common.{◌≡◌, ℕ, ◌+◌, ◌<◌, ◌≤◌, List, length, get_or, get_or-set_other, get_or-set_same, set, take, drop, min, Some, sym, ap, ◌∙◌, inl, inr, arith}
-use Rattle.std.proofs.lemmas.Bool.{cases_eq}
+use Rattle.std.proofs.Common.{◌≡◌, ℕ, ◌+◌, ◌<◌, ◌≤◌, List, length, get_or, get_or-set_other, get_or-set_same, set, take, drop, min, Some, None, Option, is_some, Bool, not, true, sym, ap, ◌∙◌, inl, inr, arith}
+use Rattle.std.proofs.lemmas.Bool.{cases_eq, both_ways}
 use Rattle.std.proofs.lemmas.List.{drop-set-lt, drop-drop}
 use Rattle.std.proofs.lemmas.Option.{same_Some}
 use Rattle.table.specs.Memory.{Memory}
+use Rattle.table.specs.Held.{memory_of, StandsAt}
+use Rattle.table.specs.declared.held.Table.{Table}
+use Rattle.table.specs.declared.held.Walk.{Walk}
 use Rattle.places.specs.Listing.{Place}
 use Rattle.table.specs.Readings.{next_row}
 use Rattle.source.specs.Reach.{seen_of, byte_at}
@@ -40,3 +43,14 @@ module _ (mem : Memory) (p : Place) where
 -- and behind k nothing is changed
 pub beyond_more : (met old : List ℕ) (k t : ℕ) → drop k met ≡ drop k old → drop (k + 1) (set met k t) ≡ drop (k + 1) old
 beyond_more met old k t e = drop-set-lt (k + 1) met k t (omega arith) ∙ sym (drop-drop 1 k met) ∙ ap (drop 1) e ∙ drop-drop 1 k old
+
+-- where a walk stands, there is a row
+pub stands_stored : (t : Table) (w : Walk) (r : ℕ) → w.table.now ≡ t → w.row ≡ r → IsStored (memory_of t) r
+stands_stored t w r same at =
+    let within : length w.table.now.rows.now ≡ length t.rows.now = ap (λ (x : Table). length x.rows.now) same in
+    (omega (arith, w.some), omega (arith, w.stored))
+
+-- and where there is none, it is row 0
+pub stands_nowhere : (t : Table) (r : ℕ) (o : Option Walk) (b : Bool) → is_some o ≡ not b → b ≡ true → StandsAt t r o → r ≡ 0
+stands_nowhere t r None b e f s = s
+stands_nowhere t r (Some w) b e f s = absurd (both_ways (not b) (ap not f) (sym e))

@@ -10,7 +10,7 @@ use Rattle.table.specs.Readings.{next_row, end_marks, trail_row}
 use Rattle.scan.specs.Listed.{row_after, fits}
 use Rattle.scan.specs.Listing.{head_of}
 use Rattle.scan.proofs.Steps.{row_append}
-use Rattle.scan.proofs.Heads.{greatest_is, none_fits}
+use Rattle.scan.proofs.Greatest.{greatest_is, none_fits}
 use Rattle.table.specs.Readings.{IsStored}
 use Rattle.scan.specs.Trails.{slashed, trail_met, Stands, Covers, AreTrails, AreMoving, Added}
 

@@ -4,7 +4,9 @@ ghost use Rattle.places.specs.Order.{first_of};
 ghost use Rattle.places.specs.Listing.{last_resort};
 ghost use Rattle.table.specs.Held.{memory_of};
 ghost use Rattle.scan.specs.Listing.{place_of};
+ghost use Rattle.table.specs.Readings.{end_marks, slash_marks, IsStored};
 ghost use Rattle.scan.specs.Met.{row_met, IsLive, Met};
+ghost use Rattle.scan.specs.Traced.{memory_in, place_in};
 
 use crate::Start;
 use crate::trace::Trace;
@@ -64,9 +66,34 @@ impl<'a, S: Source> Trace<'a, S> {
     pub(crate) fn at(&self, k: usize) -> Walk<'a>
         requires { k < self.now.live }
         ensures table { result.table.now ≡ self.now.table.now }
-        ensures row { result.row ≡ row_met (memory_of self.now.table.now) (place_of self.now.start (S.rest self.now.source.now)) (k + 1) }
+        ensures row { let t = self.now in result.row ≡ row_met (memory_in t) (place_in t) (k + 1) }
     {
-        self.table.at(self.met[k]).unwrap()
+        stored(self.table, self.numbers()[k])
+    }
+
+    // The numbers of the rows that were met.
+    fn numbers(&self) -> &[u16; 1024]
+        ensures { result.now ≡ self.now.met.now }
+    {
+        self.met
+    }
+
+    // The end marks of that row.
+    pub(crate) fn ends(&self, k: usize) -> u64
+        requires { k < self.now.live }
+        ensures { let m = memory_in self.now in
+            result ≡ end_marks m (row_met m (place_in self.now) (k + 1)) }
+    {
+        self.at(k).ends()
+    }
+
+    // Its slash marks.
+    pub(crate) fn slashes(&self, k: usize) -> u64
+        requires { k < self.now.live }
+        ensures { let m = memory_in self.now in
+            result ≡ slash_marks m (row_met m (place_in self.now) (k + 1)) }
+    {
+        self.at(k).slashes()
     }
 
     // Byte k.
@@ -76,6 +103,15 @@ impl<'a, S: Source> Trace<'a, S> {
     {
         self.source.look(k).unwrap_or(0)
     }
+}
+
+// A walk that stands at this row.
+pub(crate) fn stored<'a>(table: &'a Table<'a>, row: u16) -> Walk<'a>
+    requires { IsStored (memory_of table.now) row }
+    ensures table { result.table.now ≡ table.now }
+    ensures row { result.row ≡ row }
+{
+    table.at(row).unwrap()
 }
 
 // Writes the number of each row that is met, and answers how many bytes are live.
