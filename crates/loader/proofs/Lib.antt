@@ -1,6 +1,7 @@
 pub mod MachineSets
 pub mod MachineRules
 pub mod Stored
+pub mod Columns
 pub mod Leading
 pub mod Entering
 pub mod Rows
