@@ -7,6 +7,7 @@ ghost use Rattle.scan.specs.Listed.{row_after};
 ghost use Rattle.scan.specs.Listing.{of_rules};
 ghost use Rattle.scan.specs.Traced.{memory_in, place_in, head_in, ends_with, EndsIn};
 
+use crate::end::End;
 use crate::ending::Ending;
 use crate::marks::marked;
 use crate::trails::Trails;
@@ -37,7 +38,7 @@ impl<'t, 'a, S: Source> Ending<'t, 'a, S> {
         ensures { let t = self.now.trace.now in
             EndsIn t (next_of (suc self.now.rule) self.now.total (of_rules (memory_in t) (place_in t))) result }
     {
-        self.trace.after(self.rule + 1, self.total)
+        self.trace.behind(self.rule + 1, self.total, self.marks)
     }
 
     /// The reading that ends there.
@@ -56,6 +57,18 @@ impl<'t, 'a, S: Source> Ending<'t, 'a, S> {
             return self.total;
         }
         self.head_by(&mut Trails::new())
+    }
+
+    // What is kept of it while a listing is read.
+    pub(crate) fn end(&self) -> End
+        ensures { let e = self.now in
+            (result.rule ≡ e.rule) × (result.total ≡ e.total) × (result.marks ≡ e.marks) }
+    {
+        End {
+            rule: self.rule,
+            total: self.total,
+            marks: self.marks,
+        }
     }
 
     // The reading, whose head is known.
