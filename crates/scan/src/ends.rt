@@ -1,5 +1,5 @@
 // Where the readings of a listing end, one behind another, by the end marks of the rows that were met.
-ghost use Rattle.std.specs.Prelude.{◌≡◌, ◌≤◌};
+ghost use Rattle.std.specs.Prelude.{◌≡◌, suc, ◌<◌, ◌≤◌};
 ghost use Rattle.table.specs.Readings.{end_marks};
 ghost use Rattle.places.specs.Order.{first_of, next_of};
 ghost use Rattle.scan.specs.Listing.{up_to, of_rules};
@@ -7,7 +7,7 @@ ghost use Rattle.scan.specs.Met.{row_met};
 ghost use Rattle.scan.specs.Traced.{memory_in, place_in, EndsIn};
 
 use crate::ending::Ending;
-use crate::marks::first_mark;
+use crate::marks::{first_mark, next_mark};
 use crate::trace::Trace;
 use source::Source;
 
@@ -31,20 +31,24 @@ impl<'a, S: Source> Trace<'a, S> {
         if total > self.live {
             return self.up_to(self.live);
         }
-        self.behind(rule, total, self.ends(total - 1))
+        if rule > 64 {
+            return self.up_to(total - 1);
+        }
+        self.behind(rule - 1, total, self.ends(total - 1))
     }
 
-    // The same, where the total is live and these are the end marks after so many bytes.
+    // The first behind rule i + 1, where i is `rule`, with this total, which is live, and these end
+    // marks after so many bytes.
     pub(crate) fn behind(&self, rule: usize, total: usize, marks: u64) -> Option<Ending<'_, 'a, S>>
-        requires rule { 1 ≤ rule }
+        requires rule { rule < 64 }
         requires total { 1 ≤ total }
         requires live { total ≤ self.now.live }
         requires marks { let m = memory_in self.now in
             marks ≡ end_marks m (row_met m (place_in self.now) total) }
         ensures { let t = self.now in
-            EndsIn t (next_of rule total (of_rules (memory_in t) (place_in t))) result }
+            EndsIn t (next_of (suc rule) total (of_rules (memory_in t) (place_in t))) result }
     {
-        match first_mark(marks, rule) {
+        match next_mark(marks, rule) {
             Some(rule) => Some(Ending {
                 trace: self,
                 rule,
@@ -64,7 +68,7 @@ impl<'a, S: Source> Trace<'a, S> {
         // By number, since a total is one.
         for k in (0..n).rev() {
             let marks = self.ends(k);
-            if let Some(rule) = first_mark(marks, 0) {
+            if let Some(rule) = first_mark(marks) {
                 return Some(Ending {
                     trace: self,
                     rule,

@@ -48,7 +48,7 @@ impl<'t, 'a, S: Source> ReadingsLeft<'t, 'a, S> {
     {
         match self.last {
             None => self.trace.first(),
-            Some(last) => self.trace.behind(last.rule + 1, last.total, last.marks),
+            Some(last) => self.trace.behind(last.rule, last.total, last.marks),
         }
     }
 }

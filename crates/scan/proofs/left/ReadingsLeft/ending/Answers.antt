@@ -1,4 +1,4 @@
-use Rattle.std.proofs.Common.{suc, sym, ap, ◌∙◌, add-one}
+use Rattle.std.proofs.Common.{suc, sym, ap, ◌∙◌}
 use Rattle.std.specs.Option.{option_map}
 use Rattle.places.specs.Order.{comes_after, first_of, next_of}
 use Rattle.scan.specs.Listing.{of_rules}
@@ -14,7 +14,7 @@ returns-in-Some g c =
     let p = place_in t in
     let last = c.in-Some.last in
     let ds = of_rules m p in (
-      c.behind.ensures.0 ∙ ap (λ r. next_of r last.total ds) (add-one last.rule)
+      c.behind.ensures.0
           ∙ sym (first_found (comes_after (suc last.rule) last.total) ds)
           ∙ ap (λ o. first_of (behind (option_map (reading_at m p) o) ds)) (sym c.in-Some.is),
       c.behind.ensures.1,

@@ -1,4 +1,4 @@
-use Rattle.std.proofs.Common.{◌≡◌, ◌≢◌, suc, ◌-◌, ◌≤◌, length, min, Some, None, refl, sym, ap, ◌∙◌, arith}
+use Rattle.std.proofs.Common.{◌≡◌, suc, ◌-◌, ◌≤◌, length, min, Some, None, refl, sym, ap, ◌∙◌, arith}
 use Rattle.table.specs.Readings.{end_marks}
 use Rattle.places.specs.Order.{next_of}
 use Rattle.scan.specs.Listing.{reading, of_rules}
@@ -13,13 +13,12 @@ returns-in-Some g c =
     let m = memory_in t in
     let p = place_in t in
     let j = c.args.total - 1 in
-    let ruled : c.args.rule ≢ 0 = λ e. omega (arith, c.requires.rule) in
     let all : suc j ≡ c.args.total = omega (arith, c.requires.total) in
     let most : suc j ≤ min 1024 (length p.rest) = omega (arith, c.requires.total, c.requires.live, t.alive.most, t.alive.within) in
     let marks : c.args.marks ≡ end_marks m (row_met m p (suc j)) = c.requires.marks ∙ ap (λ n. end_marks m (row_met m p n)) (sym all) in (
       ap (λ n. Some (reading m p n c.in-Some.rule)) (sym all)
-          ∙ sym (next_at m p c.args.rule j (min 1024 (length p.rest)) c.args.marks (Some c.in-Some.rule) ruled most marks c.in-Some.ensures)
-          ∙ ap (λ n. next_of c.args.rule n (of_rules m p)) all,
+          ∙ sym (next_at m p (suc c.args.rule) j (min 1024 (length p.rest)) c.args.marks (Some c.in-Some.rule) (λ e. omega arith) most marks c.in-Some.ensures)
+          ∙ ap (λ n. next_of (suc c.args.rule) n (of_rules m p)) all,
       refl,
     )
 
@@ -29,12 +28,11 @@ returns-in-None g c =
     let m = memory_in t in
     let p = place_in t in
     let j = c.args.total - 1 in
-    let ruled : c.args.rule ≢ 0 = λ e. omega (arith, c.requires.rule) in
     let all : suc j ≡ c.args.total = omega (arith, c.requires.total) in
     let most : suc j ≤ min 1024 (length p.rest) = omega (arith, c.requires.total, c.requires.live, t.alive.most, t.alive.within) in
     let marks : c.args.marks ≡ end_marks m (row_met m p (suc j)) = c.requires.marks ∙ ap (λ n. end_marks m (row_met m p n)) (sym all) in (
       c.up_to.ensures.0
-          ∙ sym (next_at m p c.args.rule j (min 1024 (length p.rest)) c.args.marks None ruled most marks c.in-None.ensures)
-          ∙ ap (λ n. next_of c.args.rule n (of_rules m p)) all,
+          ∙ sym (next_at m p (suc c.args.rule) j (min 1024 (length p.rest)) c.args.marks None (λ e. omega arith) most marks c.in-None.ensures)
+          ∙ ap (λ n. next_of (suc c.args.rule) n (of_rules m p)) all,
       c.up_to.ensures.1,
     )
