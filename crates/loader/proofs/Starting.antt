@@ -4,7 +4,7 @@ use Rattle.std.proofs.lemmas.Bool.{cases_eq}
 use Rattle.positions.specs.Memory.{Work}
 use Rattle.grammar.specs.File.{RuleText}
 use Rattle.table.specs.declared.loaded.Loaded.{Loaded}
-use Rattle.loader.specs.Loaded.{RulesHold}
+use Rattle.loader.specs.Held.{RulesHold}
 use Rattle.automaton.specs.Sets.{Set}
 use Rattle.automaton.specs.Automaton.{start_set}
 use Rattle.automaton.specs.Numbering.{number, meet, meet_all, starts}

@@ -7,8 +7,8 @@ use Rattle.table.specs.declared.loaded.Row.{Row}
 use Rattle.table.specs.declared.loaded.StartRows.{StartRows}
 use Rattle.table.specs.declared.loaded.Loaded.{Loaded}
 use Rattle.table.specs.Zeros.{no_row}
-use Rattle.loader.specs.Loaded.{RulesHold}
-use Rattle.loader.specs.Loaded as rulefile
+use Rattle.loader.specs.Held.{RulesHold, RowHolds, HoldsRows as Holds}
+use Rattle.loader.specs.Held as rulefile
 use Rattle.loader.specs.Laid.{RulesLaid}
 use Rattle.automaton.specs.Sets.{Set}
 use Rattle.automaton.specs.Automaton.{start_set, trail_set, leads}
@@ -18,7 +18,7 @@ use Rattle.table.specs.Memory.{row_at, rule_at, start_at, MarkedIn}
 use Rattle.loader.specs.declared.Met.{Met}
 use Rattle.loader.specs.declared.MetStart.{MetStart}
 use Rattle.loader.specs.declared.Lead.{Lead}
-use Rattle.loader.specs.Load.{RowHolds, start_of, trail_of, Holds, sets_of}
+use Rattle.loader.specs.Load.{start_of, trail_of, sets_of}
 use Rattle.loader.specs.Machine.{members, leads_in, live_in, behind_of}
 
 -- the first n sets, by their members

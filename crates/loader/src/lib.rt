@@ -3,13 +3,13 @@
 
 ghost use Rattle.std.specs.Prelude.{◌≡◌, ℕ, ◌<◌, ◌≤◌, false, List, length, replicate, IfSome};
 ghost use Rattle.grammar.specs.File.{RuleText, RuleFile};
+ghost use Rattle.table.specs.Memory.{memory};
 ghost use Rattle.table.specs.Zeros.{no_row};
-ghost use Rattle.loader.specs.Loaded.{RulesHold};
+ghost use Rattle.loader.specs.Held.{RulesHold};
 ghost use Rattle.loader.specs.Load.{Loads, enough};
 ghost use Rattle.loader.specs.Machine.{members, Machine};
 ghost use Rattle.loader.specs.Building.{rows_of, Stored, Meets, Led, Leads, Enters, WritesRow, Grows, MeetsStart, OnlyStarts, WritesStarts, OnlyTrails, WritesTrails, Read, Builds};
-ghost use Rattle.loader.specs.Determined.{HoldingDetermines};
-ghost use Rattle.loader.specs.TableLists.{TablesFollow, TablesList};
+ghost use Rattle.loader.specs.Following.{TablesFollow};
 
 mod lines;
 mod machine;
@@ -21,13 +21,13 @@ use finder::{Found, Full, find_or_add};
 use grammar::{Fault, Refusal, refused};
 use machine::{MACHINE_SETS, TAKERS, follow, marks, start_set, takers};
 pub use rules::{Counts, FILE_BYTES, RULES, WORK_SETS, read_rules};
-use rules::{ENDS, SLASHES, TRAILS};
+use rules::{ENDS, SLASHES, TRAILS, lay_rules};
 use table::{Loaded, Row, StartRows};
 
-// The most rows that a file may have; their sets stand behind the machine in the work memory.
+/// The most rows that a file may have; their sets stand behind the machine in the work memory.
 pub const MOST_ROWS: usize = 1024;
 
-// How much is loaded.
+/// How much is loaded.
 #[derive(Clone, Copy, PartialEq, Eq)]
 pub struct Sizes {
     pub rules: usize,
@@ -311,15 +311,17 @@ fn clear(rows: &mut [Row])
     rows.fill(Row::zeros());
 }
 
-// Loads a rule file: its rules and the rows of their positions. Refusals for want of memory and for the file's length write
-// nothing; any other leaves zeros in the loaded memory and in all rows.
+/// Loads a rule file: its rules, and the rows of their positions. It refuses as `read_rules` does, with `Refusal::Memory` also
+/// for no rows or for more than `MOST_ROWS`, and with `Refusal::TooManyRows` where the file needs more rows than there are.
+/// `Refusal::Memory` and `Refusal::FileTooLong` write nothing; any other refusal leaves zeros in the loaded memory and in
+/// all rows. After any answer but those two the work memory is free.
 pub fn load(
     file: &[u8],
     loaded: &mut Loaded,
     rows: &mut [Row],
     work: &mut [PositionSet],
 ) -> Result<Sizes, Fault>
-    ensures { Loads file.now loaded.old loaded.new rows.old rows.new work.old work.new result }
+    ensures { Loads file.now (memory loaded.old rows.old) (memory loaded.new rows.new) work.old work.new result }
 {
     if !is_enough(rows.len(), work.len()) {
         return Err(refused(Refusal::Memory, 0));
@@ -328,7 +330,7 @@ pub fn load(
         return Err(refused(Refusal::FileTooLong, 0));
     }
     clear(rows);
-    let counts = read_rules(file, loaded, work)?;
+    let counts = lay_rules(file, loaded, work)?;
     let Some(count) = build_in(work, counts.positions, loaded, rows) else {
         *loaded = Loaded::zeros();
         clear(rows);
@@ -341,17 +343,7 @@ pub fn load(
     })
 }
 
-// What holds a file is determined whole: every word of it.
-pub fn holding_determines()
-    ensures { HoldingDetermines }
-{}
-
-// Theorem: what the table of a loaded rule file lists is what its patterns allow.
-pub fn tables_list()
-    ensures { TablesList }
-{}
-
-// Theorem: after bytes, a loaded table is in the row of the positions that they lead to.
+/// Theorem: after bytes, a loaded table stands at the row of the positions that they lead to.
 pub fn tables_follow()
     ensures { TablesFollow }
 {}

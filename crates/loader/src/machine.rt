@@ -3,7 +3,7 @@ ghost use Rattle.std.specs.Prelude.{◌≡◌, ℕ, ◌+◌, ◌-◌, ◌^◌, �
 ghost use Rattle.bits.specs.Set.{bit, has, Whole};
 ghost use Rattle.positions.specs.Memory.{member, between};
 ghost use Rattle.grammar.specs.File.{RuleText, all_positions};
-ghost use Rattle.loader.specs.Loaded.{RulesHold};
+ghost use Rattle.loader.specs.Held.{RulesHold};
 ghost use Rattle.loader.specs.Laid.{RulesLaid};
 ghost use Rattle.automaton.specs.Automaton.{start_set as start_of, meets};
 ghost use Rattle.loader.specs.Machine.{members, set_at, behind_of, live_at, start_in, Machine};

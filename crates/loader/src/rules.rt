@@ -13,6 +13,7 @@ ghost use Rattle.grammar.specs.Bytes.{stands as stands_at};
 ghost use Rattle.grammar.specs.Expressions.{alternation_at};
 ghost use Rattle.grammar.specs.File.{newline as newline_of, trailing_at, pattern_at, starts_rule, behind_active, rule_line};
 ghost use Rattle.loader.specs.Marks.{Unjoined, MarkedGives, Keeps, Joined, TrailingGives, PatternGives};
+ghost use Rattle.loader.specs.ReadRules.{ReadsRules};
 ghost use Rattle.loader.specs.Sections.{steps_behind, LineGives, FirstGives, Adds, Goes, FileReads, Answers};
 ghost use Rattle.loader.specs.Shown.{shown};
 
@@ -28,14 +29,16 @@ use std::fmt;
 use table::{Loaded, Rule};
 use tokens::{behind_blanks, stands};
 
-// The most bytes that a rule file may have, and the most rules.
+/// The most bytes that a rule file may have.
 pub const FILE_BYTES: usize = 8192;
 
+/// The most rules that it may have.
 pub const RULES: usize = 64;
 
-// The sets of the work memory, 32,768 words of 64 bits in all: the bytes of each position, the positions that may follow
-// it, then for each rule the positions that it begins with, those that its trailing part begins with, its end mark, and
-// its slash mark. Positions are numbers, and the memory is lent and fixed, as the library has no heap.
+/// The sets of the work memory, 32,768 words of 64 bits in all.
+// They are the bytes of each position, the positions that may follow it, then for each rule the positions that it begins
+// with, those that its trailing part begins with, its end mark, and its slash mark. Positions are numbers, and the memory
+// is lent and fixed, as the library has no heap.
 pub const WORK_SETS: usize = 4096;
 
 pub(crate) const FIRSTS: usize = 1024;
@@ -46,7 +49,7 @@ pub(crate) const ENDS: usize = 1152;
 
 pub(crate) const SLASHES: usize = 1216;
 
-// How much a right file has.
+/// How much a right file has.
 #[derive(Clone, Copy, PartialEq, Eq)]
 pub struct Counts {
     pub rules: usize,
@@ -267,9 +270,11 @@ fn rule_body(
     let Read { value: used, next } = pattern_at(s, past_anchor(s, active.next), place, work)?;
     let action = steps_behind(s, next, conditions)?;
     let steps = action.list;
+    // `either` promises words of 64 bits, which nothing does of a set that is lent.
+    let whole = active.value.either(&active.value);
     Ok(RuleRead {
         rule: Rule {
-            conditions: active.value,
+            conditions: whole,
             anchored,
             trail: 0,
             steps,
@@ -376,9 +381,8 @@ fn sections(
     })
 }
 
-// Reads a rule file into the loaded memory, and its positions into the work memory. Refusals for want of memory and for
-// the file's length write nothing; any other leaves the loaded memory zeros.
-pub fn read_rules(
+// Reads a rule file into the loaded memory, and lays its positions down in the work memory.
+pub(crate) fn lay_rules(
     file: &[u8],
     loaded: &mut Loaded,
     work: &mut [PositionSet],
@@ -397,4 +401,18 @@ pub fn read_rules(
         *loaded = Loaded::zeros();
     }
     read
+}
+
+/// Reads a rule file into the loaded memory, without rows. It refuses with `Refusal::Memory` where there are fewer than
+/// `WORK_SETS` sets to work in, with `Refusal::FileTooLong` where there are more than `FILE_BYTES` bytes, and with the first
+/// fault of the file: `Refusal::Misfit`, `Refusal::UnknownName`, `Refusal::DeclaredAgain`, `Refusal::OutOfBounds` or
+/// `Refusal::LimitPassed`. The first two write nothing; any other leaves the loaded memory zeros, and the work memory free.
+pub fn read_rules(
+    file: &[u8],
+    loaded: &mut Loaded,
+    work: &mut [PositionSet],
+) -> Result<Counts, Fault>
+    ensures { ReadsRules file.now loaded.old loaded.new work.old work.new result }
+{
+    lay_rules(file, loaded, work)
 }
