@@ -150,16 +150,8 @@ module _ {file : List ℕ} {f : RuleFile} {rs : List Set} {most : ℕ} {mem : Me
         rule = q;
         number = t.number;
         of = at;
-        matches = record {
-          active = a.0;
-          anchor = a.1;
-          some = t.some;
-          within = t.within;
-          headed = t.head.some;
-          splits = g.0;
-          greatest = g.1;
-        };
         most = t.most;
+        matches = record { active = a.0; anchor = a.1; some = t.some; within = t.within; headed = t.head.some; splits = g.0; greatest = g.1 };
       }
 
   listed_of : (d : Reading) → TableListed mem p d → Listed f.rules p d

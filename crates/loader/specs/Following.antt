@@ -18,9 +18,11 @@ Stands rs k s = (k ≡ number rs s) × Known rs s
 -- from each start row and from each trail start, bytes lead to the row of a set
 pub record RowsStand (f : RuleFile) (rs : List Set) (m : Memory) : Type 0 where
   pub from_start : (c : ℕ) (line : Bool) (s : List ℕ) → All (λ b. b < 256) s
-      → Stands rs (row_after m (start_row m c line) s) (reached f.rules (start_set f.rules 0 c line) s)
+      → Stands rs (row_after m (start_row m c line) s)
+      (reached f.rules (start_set f.rules 0 c line) s)
   pub from_trail : (i : ℕ) → i < length f.rules → (s : List ℕ) → All (λ b. b < 256) s
-      → Stands rs (row_after m (trail_row m (suc i)) s) (reached f.rules (trail_set f.rules 0 i) s)
+      → Stands rs (row_after m (trail_row m (suc i)) s)
+      (reached f.rules (trail_set f.rules 0 i) s)
 
 -- in whatever a file is loaded as
 abbrev pub TablesFollow : Type 0

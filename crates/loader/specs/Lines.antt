@@ -19,8 +19,10 @@ pub record IsLine (file : List ℕ) (l : Line) (x : TextLine) : Type 0 where
 -- a call gives the first of the lines that are left, and leaves the others, of the same file
 pub record Gives (s : TextLines) (r : Option TextLine) (t : TextLines) : Type 0 where
   pub file : t.file.now ≡ s.file.now
-  pub first : MatchOption r ((left s ≡ []) × (left t ≡ [])) (λ x. (l : Line) × (left s ≡ l ∷ left t) × IsLine s.file.now l x)
+  pub first : MatchOption r ((left s ≡ []) × (left t ≡ []))
+      (λ x. (l : Line) × (left s ≡ l ∷ left t) × IsLine s.file.now l x)
 
 -- a text that ends in `%%` where the line starts
 abbrev pub divides_in : List ℕ → ℕ → Bool
-divides_in text start = length text == start + 2 && (stands text start (byte "%") && stands text (start + 1) (byte "%"))
+divides_in text start =
+    length text == start + 2 && (stands text start (byte "%") && stands text (start + 1) (byte "%"))

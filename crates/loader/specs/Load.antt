@@ -42,13 +42,15 @@ sizes_of f rows = record {
 -- a right file needs no more rows than there are
 abbrev pub fitted : List ℕ → ℕ → RuleFile → Out Sizes
 fitted file rows f =
-    cond (nat_le (length (sets_of f rows)) rows) (Ok (sizes_of f rows)) (refused TooManyRows (length file))
+    cond (nat_le (length (sets_of f rows)) rows) (Ok (sizes_of f rows))
+    (refused TooManyRows (length file))
 
 abbrev pub outcome : List ℕ → ℕ → ℕ → Out Sizes
 outcome file rows sets =
     cond (enough rows sets) (then (rule_file_of file) (fitted file rows)) (refused TooLittle 0)
 
--- the row of the set s, among the rows rs: where each byte leads, and bit i for each mark of rule i + 1
+-- the row of the set s, among the rows rs: where each byte leads, and bit i for each mark of rule
+-- i + 1
 abbrev pub row_of : List RuleText → List Set → Set → Row
 row_of qs rs s = record {
   next = entries (λ b. number rs (leads qs s b));
@@ -116,6 +118,7 @@ Leaves file m m' w w' (Err e) =
     RefusalLeaves e.refusal m m' (memory zeros (replicate (length m.rows) no_row)) w w'
 
 -- the answer, and what it leaves
-pub record Loads (file : List ℕ) (m m' : Memory) (w w' : Work) (r : Result Sizes Fault) : Type 0 where
+pub record Loads (file : List ℕ) (m m' : Memory) (w w' : Work) (r : Result Sizes Fault)
+    : Type 0 where
   pub answer : r ≡ outcome file (length m.rows) (length w)
   pub leaves : Leaves file m m' w w' r

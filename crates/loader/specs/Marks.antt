@@ -20,7 +20,8 @@ abbrev pub gives : {X Y : Type 0} → Out X → (Y → Type 0) → Result Y Faul
 gives o P (Ok y) = P y
 gives o P (Err e) = o ≡ Err e
 
--- a mark at a, and behind it the expression e, which p says how it begins and ends: nothing joins them yet
+-- a mark at a, and behind it the expression e, which p says how it begins and ends: nothing joins
+-- them yet
 pub record Unjoined (w : Work) (a : ℕ) (e : Expression) (p : Parsed) : Type 0 where
   pub mark_bytes : (b : ℕ) → member w a b ≡ false
   pub mark_order : (q : ℕ) → member w (512 + a) q ≡ false
@@ -51,18 +52,21 @@ pub record Joined (a i : ℕ) (w w' : Work) (r : Expression) (x : Option Express
   pub kept : RulesKept a i w w'
 
 -- x is the trailing part behind r, which is e: a mark and an expression, laid down where r ends
-pub record TrailingRead (o : Out file.Pattern) (e : Expression) (r : Parsed) (w w' : Work) (x : Parsed) : Type 0 where
+pub record TrailingRead (o : Out file.Pattern) (e : Expression) (r : Parsed) (w w' : Work)
+    (x : Parsed) : Type 0 where
   pub tree : Expression
   pub is : o ≡ file.pattern e (Some tree) x.at x.used
   pub unjoined : Unjoined w' r.used tree x
   pub kept : Kept r.used w w'
 
-abbrev pub TrailingGives : Out file.Pattern → Expression → Parsed → Work → Work → Result (Option Parsed) Fault → Type 0
+abbrev pub TrailingGives : Out file.Pattern → Expression → Parsed → Work → Work
+    → Result (Option Parsed) Fault → Type 0
 TrailingGives o e r w w' (Ok None) = (o ≡ file.pattern e None r.at r.used) × (w' ≡ w)
 TrailingGives o e r w w' (Ok (Some x)) = TrailingRead o e r w w' x
 TrailingGives o e r w w' (Err f) = o ≡ Err f
 
--- the pattern is read up to p.next, and laid down from position a on as that of rule i; p.value positions are used then
+-- the pattern is read up to p.next, and laid down from position a on as that of rule i; p.value
+-- positions are used then
 pub record PatternRead (o : Out file.Pattern) (a i : ℕ) (w w' : Work) (p : Read ℕ) : Type 0 where
   pub pattern : file.Pattern
   pub is : o ≡ Ok pattern

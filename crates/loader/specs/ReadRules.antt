@@ -27,6 +27,7 @@ abbrev pub ReadingLeaves : List ℕ → Loaded → Loaded → Work → Work → 
 ReadingLeaves file l l' w w' (Ok n) = (f : RuleFile) × (rule_file_of file ≡ Ok f) × (l' ≡ read_of f)
 ReadingLeaves file l l' w w' (Err e) = RefusalLeaves e.refusal l l' zeros w w'
 
-pub record ReadsRules (file : List ℕ) (l l' : Loaded) (w w' : Work) (r : Result Counts Fault) : Type 0 where
+pub record ReadsRules (file : List ℕ) (l l' : Loaded) (w w' : Work) (r : Result Counts Fault)
+    : Type 0 where
   pub answer : r ≡ counted file (length w)
   pub leaves : ReadingLeaves file l l' w w' r

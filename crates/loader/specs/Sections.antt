@@ -25,7 +25,8 @@ use Rattle.loader.specs.Held.{RuleHolds, RulesHold, trails_of, Holds}
 
 -- blanks, at least one, and the action
 abbrev pub steps_behind : List ℕ → Conditions → ℕ → Out (List Step)
-steps_behind s c n = cond (passes blank s n) (action_at s c (n + span blank (length s) s n)) (refused Misfit n)
+steps_behind s c n =
+    cond (passes blank s n) (action_at s c (n + span blank (length s) s n)) (refused Misfit n)
 
 -- the rule line is the rule that r holds, with its pattern laid down from position a on as rule i
 pub record LineRead (o : Out file.RuleRead) (a i : ℕ) (w w' : Work) (r : RuleRead) : Type 0 where
@@ -44,12 +45,14 @@ LineGives o a i w w' = gives o (LineRead o a i w w')
 -- the first section ends before the lines that are left in t
 pub record FirstRead (s t : TextLines) (c : code.Conditions) : Type 0 where
   pub same : t.file.now ≡ s.file.now
-  pub is : file.first_section s.file.now only_initial (left s) ≡ Ok (record { conditions = known c; behind = left t })
+  pub is : file.first_section s.file.now only_initial (left s)
+      ≡ Ok (record { conditions = known c; behind = left t })
 
 abbrev pub FirstGives : TextLines → TextLines → Result code.Conditions Fault → Type 0
 FirstGives s t = gives (file.first_section s.file.now only_initial (left s)) (FirstRead s t)
 
--- the rules so far: qs, laid down in the work memory, and in the loaded memory if that was zeros at first
+-- the rules so far: qs, laid down in the work memory, and in the loaded memory if that was zeros at
+-- first
 pub record SoFar (qs : List RuleText) (w : Work) (l₀ l : Loaded) (p : Progress) : Type 0 where
   pub count : p.rules ≡ length qs
   pub few : length qs ≤ 64
@@ -61,19 +64,24 @@ pub record SoFar (qs : List RuleText) (w : Work) (l₀ l : Loaded) (p : Progress
   pub row_count : l.row_count ≡ l₀.row_count
 
 -- one more rule, in the place behind those so far
-pub record Added (s : List ℕ) (c : Conditions) (at : ℕ) (done : Progress) (w w' : Work) (l l' : Loaded) (p : Progress) : Type 0 where
+pub record Added (s : List ℕ) (c : Conditions) (at : ℕ) (done : Progress) (w w' : Work)
+    (l l' : Loaded) (p : Progress) : Type 0 where
   pub read : RuleRead
-  pub line : LineRead (file.rule_line s c done.rules at done.positions) done.positions done.rules w w' read
+  pub line : LineRead (file.rule_line s c done.rules at done.positions) done.positions done.rules
+      w w' read
   pub rules : l'.rules ≡ slice_set l.rules done.rules read.rule
   pub starts : l'.starts ≡ l.starts
   pub row_count : l'.row_count ≡ l.row_count
   pub next : p ≡ record { rules = done.rules + 1; positions = read.used }
 
-abbrev pub Adds : List ℕ → Conditions → ℕ → Progress → Work → Work → Loaded → Loaded → Result Progress Fault → Type 0
-Adds s c at done w w' l l' = gives (file.rule_line s c done.rules at done.positions) (Added s c at done w w' l l')
+abbrev pub Adds : List ℕ → Conditions → ℕ → Progress → Work → Work → Loaded → Loaded
+    → Result Progress Fault → Type 0
+Adds s c at done w w' l l' =
+    gives (file.rule_line s c done.rules at done.positions) (Added s c at done w w' l l')
 
 -- the second section, of the lines that are left in s
-pub record Gone (s : TextLines) (c : Conditions) (w : Work) (l l' : Loaded) (p : Progress) : Type 0 where
+pub record Gone (s : TextLines) (c : Conditions) (w : Work) (l l' : Loaded) (p : Progress)
+    : Type 0 where
   pub rules : List RuleText
   pub is : file.second_section s.file.now c [] 0 (left s) ≡ file.rule_file c rules p.positions
   pub so_far : SoFar rules w l l' p
@@ -98,8 +106,11 @@ FileGives o w l (Err e) = (o ≡ Err e) × (l ≡ zeros)
 abbrev pub FileReads : List ℕ → Work → Loaded → Result Counts Fault → Type 0
 FileReads text w l = gives (file.sections text) (FileRead (file.sections text) w l)
 
--- Memory and length are judged first, and write nothing; any other refusal leaves the loaded memory zeros.
-pub record Answers (text : List ℕ) (l l' : Loaded) (w w' : Work) (r : Result Counts Fault) : Type 0 where
+-- Memory and length are judged first, and write nothing; any other refusal leaves the loaded memory
+-- zeros.
+pub record Answers (text : List ℕ) (l l' : Loaded) (w w' : Work) (r : Result Counts Fault)
+    : Type 0 where
   pub short : length w < 4096 → (r ≡ refused Memory 0) × (l' ≡ l) × (w' ≡ w)
-  pub long : 4096 ≤ length w → 8192 < length text → (r ≡ refused FileTooLong 0) × (l' ≡ l) × (w' ≡ w)
+  pub long : 4096 ≤ length w → 8192 < length text
+      → (r ≡ refused FileTooLong 0) × (l' ≡ l) × (w' ≡ w)
   pub reads : 4096 ≤ length w → length text ≤ 8192 → FileGives (rule_file_of text) w' l' r

@@ -5,4 +5,5 @@ use Rattle.loader.specs.declared.rules.Counts.{Counts}
 
 abbrev pub shown : Counts → List ℕ
 shown c =
-    decimal c.rules ++ codes " rules, " ++ decimal c.conditions ++ codes " conditions, " ++ decimal c.positions ++ codes " positions"
+    decimal c.rules ++ codes " rules, " ++ decimal c.conditions ++ codes " conditions, "
+    ++ decimal c.positions ++ codes " positions"

@@ -26,10 +26,10 @@ pub use rules::{Counts, FILE_BYTES, RULES, WORK_SETS, read_rules};
 use rules::{ENDS, SLASHES, TRAILS, lay_rules};
 use table::{Loaded, Row, StartRows};
 
-// The most rows that a file may have; their sets stand behind the machine in the work memory.
+/// The most rows that a file may have; their sets stand behind the machine in the work memory.
 pub const MOST_ROWS: usize = 1024;
 
-// How much is loaded.
+/// How much is loaded.
 #[derive(Clone, Copy, PartialEq, Eq)]
 pub struct Sizes {
     pub rules: usize,

@@ -29,14 +29,16 @@ use std::fmt;
 use table::{Loaded, Rule};
 use tokens::{behind_blanks, stands};
 
-// The most bytes that a rule file may have, and the most rules.
+/// The most bytes that a rule file may have.
 pub const FILE_BYTES: usize = 8192;
 
+/// The most rules that it may have.
 pub const RULES: usize = 64;
 
-// The sets of the work memory, 32,768 words of 64 bits in all: the bytes of each position, the positions that may follow
-// it, then for each rule the positions that it begins with, those that its trailing part begins with, its end mark, and
-// its slash mark. Positions are numbers, and the memory is lent and fixed, as the library has no heap.
+/// The sets of the work memory, 32,768 words of 64 bits in all.
+// They are the bytes of each position, the positions that may follow it, then for each rule the positions that it begins
+// with, those that its trailing part begins with, its end mark, and its slash mark. Positions are numbers, and the memory
+// is lent and fixed, as the library has no heap.
 pub const WORK_SETS: usize = 4096;
 
 pub(crate) const FIRSTS: usize = 1024;
@@ -47,7 +49,7 @@ pub(crate) const ENDS: usize = 1152;
 
 pub(crate) const SLASHES: usize = 1216;
 
-// How much a right file has.
+/// How much a right file has.
 #[derive(Clone, Copy, PartialEq, Eq)]
 pub struct Counts {
     pub rules: usize,
