@@ -31,13 +31,16 @@ pub record Stored (w : Work) (n : ℕ) : Type 0 where
   pub room : n ≤ length w
   pub most : length w ≤ 1024
   pub whole : (k : ℕ) → k < n → Whole 8 (slice_index_or w k (record { words = [] })).words
-  pub filled : (k : ℕ) → k < n → empty (has (slice_index_or w k (record { words = [] })).words) ≡ false
-  pub apart : (j k : ℕ) → j < k → k < n → (slice_index_or w j (record { words = [] })).words ≢ (slice_index_or w k (record { words = [] })).words
+  pub filled : (k : ℕ) → k < n → empty (has (slice_index_or w k (record { words = [] })).words) ≡
+      false
+  pub apart : (j k : ℕ) → j < k → k < n → (slice_index_or w j (record { words = [] })).words ≢
+      (slice_index_or w k (record { words = [] })).words
 
 -- a set that is the same, if one is answered
 abbrev pub Guessed : Work → Bits 8 → Option ℕ → Type 0
 Guessed w s None = Unit {0}
-Guessed w s (Some k) = (k < length w) × ((slice_index_or w k (record { words = [] })).words ≡ s.words)
+Guessed w s (Some k) = (k < length w) × ((slice_index_or w k (record { words = [] })).words ≡
+    s.words)
 
 -- the set s is met, and has its number among the rows
 pub record MetAs (rs : List Set) (s : Set) (w' : Work) (m : Met) : Type 0 where
@@ -56,7 +59,8 @@ pub record Led (m : Work) (rs : List Set) (l : Lead) : Type 0 where
   pub number : l.number ≡ number rs (behind_of m (members l.live))
 
 -- one byte further
-pub record LeadsOn (m : Work) (rs : List Set) (s : Set) (b : ℕ) (w' : Work) (l : Lead) : Type 0 where
+pub record LeadsOn (m : Work) (rs : List Set) (s : Set) (b : ℕ) (w' : Work)
+    (l : Lead) : Type 0 where
   pub rows : rows_of w' l.count ≡ meet rs (leads_in m s b)
   pub led : Led m (rows_of w' l.count) l
   pub live : (p : ℕ) → members l.live p ≡ live_in m s b p
@@ -67,22 +71,26 @@ Leads m rs s b w' None = length w' < length (meet rs (leads_in m s b))
 Leads m rs s b w' (Some l) = LeadsOn m rs s b w' l
 
 -- where the first n bytes lead from s, all of them met: the first n entries of its row
-pub record Entered (qs : List RuleText) (rs : List Set) (s : Set) (n : ℕ) (us : List Set) (next : List ℕ) : Type 0 where
+pub record Entered (qs : List RuleText) (rs : List Set) (s : Set) (n : ℕ) (us : List Set)
+    (next : List ℕ) : Type 0 where
   pub rows : us ≡ meet_all rs (leads_from qs s 0 n)
-  pub entries : (b : ℕ) → b < n → (slice_index next b ≡ number us (leads qs s b)) × Known us (leads qs s b)
+  pub entries : (b : ℕ) → b < n → (slice_index next b ≡ number us (leads qs s b))
+      × Known us (leads qs s b)
 
 abbrev pub Enters : List RuleText → List Set → Set → Work → List ℕ → Option ℕ → Type 0
 Enters qs rs s w' next None = length w' < length (meet_all rs (leads_from qs s 0 256))
 Enters qs rs s w' next (Some n) = Entered qs rs s 256 (rows_of w' n) next
 
--- a row that stands for s, where each byte leads to a row that is known, and no mark is that of a rule past the last of n
+-- a row that stands for s, where each byte leads to a row that is known, and no mark is that of a
+-- rule past the last of n
 pub record RowStands (qs : List RuleText) (n : ℕ) (us : List Set) (s : Set) (r : Row) : Type 0 where
   pub holds : RowHolds qs us s r
   pub known : (b : ℕ) → b < 256 → Known us (leads qs s b)
   pub marked : MarkedIn n r
 
 -- the row of s is written
-pub record RowWritten (qs : List RuleText) (n : ℕ) (rs : List Set) (s : Set) (us : List Set) (r : Row) : Type 0 where
+pub record RowWritten (qs : List RuleText) (n : ℕ) (rs : List Set) (s : Set) (us : List Set)
+    (r : Row) : Type 0 where
   pub rows : us ≡ meet_all rs (leads_from qs s 0 256)
   pub row : RowStands qs n us s r
 
@@ -91,27 +99,32 @@ WritesRow qs n rs s w' r None = length w' < length (meet_all rs (leads_from qs s
 WritesRow qs n rs s w' r (Some m) = RowWritten qs n rs s (rows_of w' m) r
 
 -- the first k rows are written, of those that stand for us, and no other
-pub record RowsWritten (qs : List RuleText) (n k : ℕ) (us : List Set) (rows rows' : List Row) : Type 0 where
+pub record RowsWritten (qs : List RuleText) (n k : ℕ) (us : List Set)
+    (rows rows' : List Row) : Type 0 where
   pub each : (j : ℕ) → j < k → RowStands qs n us (slice_index_or us j none) (row_at rows' j)
   pub behind : (j : ℕ) → k ≤ j → row_at rows' j ≡ row_at rows j
 
 -- all rows are met and written
-pub record AllWritten (qs : List RuleText) (n : ℕ) (rs us : List Set) (rows rows' : List Row) : Type 0 where
+pub record AllWritten (qs : List RuleText) (n : ℕ) (rs us : List Set)
+    (rows rows' : List Row) : Type 0 where
   pub all : us ≡ grown qs (length rows) (suc (length rows)) 0 rs
   pub written : RowsWritten qs n (length us) us rows rows'
 
 abbrev pub Grows : List RuleText → ℕ → List Set → Work → List Row → List Row → Option ℕ → Type 0
-Grows qs n rs w' rows rows' None = length rows < length (grown qs (length rows) (suc (length rows)) 0 rs)
+Grows qs n rs w' rows rows' None = length rows < length
+    (grown qs (length rows) (suc (length rows)) 0 rs)
 Grows qs n rs w' rows rows' (Some m) = AllWritten qs n rs (rows_of w' m) rows rows'
 
 -- both starts of the condition c are met
-pub record StartMet (qs : List RuleText) (rs : List Set) (c : ℕ) (us : List Set) (s : StartRows) : Type 0 where
+pub record StartMet (qs : List RuleText) (rs : List Set) (c : ℕ) (us : List Set)
+    (s : StartRows) : Type 0 where
   pub rows : us ≡ meet (meet rs (start_set qs 0 c false)) (start_set qs 0 c true)
   pub start : s ≡ start_of qs us c
   pub known : (line : Bool) → Known us (start_set qs 0 c line)
 
 abbrev pub MeetsStart : List RuleText → List Set → ℕ → Work → Option MetStart → Type 0
-MeetsStart qs rs c w' None = length w' < length (meet (meet rs (start_set qs 0 c false)) (start_set qs 0 c true))
+MeetsStart qs rs c w' None = length w' < length
+    (meet (meet rs (start_set qs 0 c false)) (start_set qs 0 c true))
 MeetsStart qs rs c w' (Some m) = StartMet qs rs c (rows_of w' m.count) m.start
 
 -- nothing but the starts is written
@@ -142,7 +155,8 @@ pub record OnlyTrails (l l' : Loaded) : Type 0 where
   pub row_count : l'.row_count ≡ l.row_count
 
 -- the trail starts of the first n rules are met and written, and no other
-pub record TrailsWritten (qs : List RuleText) (rs : List Set) (n : ℕ) (us : List Set) (l l' : Loaded) : Type 0 where
+pub record TrailsWritten (qs : List RuleText) (rs : List Set) (n : ℕ) (us : List Set)
+    (l l' : Loaded) : Type 0 where
   pub rows : us ≡ meet_all rs (trails qs 0 n)
   pub each : (i : ℕ) → i < n → (rule_at l' i).trail ≡ trail_of qs us i
   pub known : (i : ℕ) → i < n → Known us (trail_set qs 0 i)
@@ -153,8 +167,10 @@ abbrev pub WritesTrails : List RuleText → List Set → Work → Loaded → Loa
 WritesTrails qs rs w' l l' None = length w' < length (meet_all rs (trails qs 0 (length qs)))
 WritesTrails qs rs w' l l' (Some m) = TrailsWritten qs rs (length qs) (rows_of w' m) l l'
 
--- the file f is read: its rules are in the work memory and the loaded memory, and the rows are zeros
-pub record Read (f : RuleFile) (w : Work) (positions : ℕ) (l : Loaded) (rows : List Row) : Type 0 where
+-- the file f is read: its rules are in the work memory and the loaded memory, and the rows are
+-- zeros
+pub record Read (f : RuleFile) (w : Work) (positions : ℕ) (l : Loaded)
+    (rows : List Row) : Type 0 where
   pub laid : RulesLaid w 0 0 f.rules
   pub used : positions ≡ all_positions f.rules
   pub holds : rulefile.Holds l f

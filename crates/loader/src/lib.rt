@@ -118,7 +118,8 @@ fn lead_on(
     requires stored { Stored sets.old previous.count }
     requires led { Led machine.now (rows_of sets.old previous.count) previous }
     requires byte { b < 256 }
-    ensures { Leads machine.now (rows_of sets.old previous.count) (members set.now) b sets.new result }
+    ensures { Leads machine.now (rows_of sets.old previous.count)
+        (members set.now) b sets.new result }
 {
     let live = set.common(&machine[TAKERS + b]);
     if live.same(&previous.live) {
@@ -161,7 +162,8 @@ fn enter(
     requires stored { Stored sets.old count }
     requires columns { Columns machine.now columns.now }
     ensures stored { IfSome result (λ n. Stored sets.new n) }
-    ensures enters { (qs : List RuleText) (n : ℕ) → Machine machine.now n qs → Enters qs (rows_of sets.old count) (members set.now) sets.new next.new result }
+    ensures enters { (qs : List RuleText) (n : ℕ) → Machine machine.now n qs
+        → Enters qs (rows_of sets.old count) (members set.now) sets.new next.new result }
 {
     let mut last = nowhere(count);
     // By number, since an entry may be that of an earlier byte.
@@ -192,7 +194,8 @@ fn write_row(
     requires few { rules ≤ 64 }
     requires columns { Columns machine.now columns.now }
     ensures stored { IfSome result (λ n. Stored sets.new n) }
-    ensures writes { (qs : List RuleText) → Machine machine.now rules qs → WritesRow qs rules (rows_of sets.old count) (members set.now) sets.new row.new result }
+    ensures writes { (qs : List RuleText) → Machine machine.now rules qs
+        → WritesRow qs rules (rows_of sets.old count) (members set.now) sets.new row.new result }
 {
     row.ends = marks(machine, ENDS, rules, set);
     row.slashes = marks(machine, SLASHES, rules, set);
@@ -211,7 +214,8 @@ fn grow(
     requires room { length sets.old ≡ length rows.old }
     requires few { rules ≤ 64 }
     ensures stored { IfSome result (λ n. Stored sets.new n) }
-    ensures grows { (qs : List RuleText) → Machine machine.now rules qs → Grows qs rules (rows_of sets.old count) sets.new rows.old rows.new result }
+    ensures grows { (qs : List RuleText) → Machine machine.now rules qs
+        → Grows qs rules (rows_of sets.old count) sets.new rows.old rows.new result }
 {
     let columns = columns(machine);
     let mut guesses = Guesses::none();
@@ -246,7 +250,9 @@ fn meet_start(
     requires stored { Stored sets.old count }
     requires few { loaded.now.rule_count ≤ 64 }
     ensures stored { IfSome result (λ m. Stored sets.new m.count) }
-    ensures meets { (qs : List RuleText) → Machine machine.now loaded.now.rule_count qs → RulesHold loaded.now.rules qs → MeetsStart qs (rows_of sets.old count) condition sets.new result }
+    ensures meets { (qs : List RuleText) → Machine machine.now loaded.now.rule_count qs
+        → RulesHold loaded.now.rules qs → MeetsStart qs (rows_of sets.old count) condition sets.new
+        result }
 {
     let inside = meet(sets, count, &start_set(machine, loaded, condition, false))?;
     let at_line_start = meet(
@@ -274,7 +280,8 @@ fn write_starts(
     requires conditions { loaded.old.condition_count ≤ 8 }
     ensures stored { IfSome result (λ n. Stored sets.new n) }
     ensures only { OnlyStarts loaded.old loaded.new }
-    ensures writes { (qs : List RuleText) → Machine machine.now loaded.old.rule_count qs → RulesHold loaded.old.rules qs → WritesStarts qs sets.new loaded.old loaded.new result }
+    ensures writes { (qs : List RuleText) → Machine machine.now loaded.old.rule_count qs
+        → RulesHold loaded.old.rules qs → WritesStarts qs sets.new loaded.old loaded.new result }
 {
     let mut count = 0;
     // By number, since a condition is named by its number.
@@ -297,7 +304,9 @@ fn write_trails(
     requires rules { loaded.old.rule_count ≤ 64 }
     ensures stored { IfSome result (λ n. Stored sets.new n) }
     ensures only { OnlyTrails loaded.old loaded.new }
-    ensures writes { (qs : List RuleText) → Machine machine.now loaded.old.rule_count qs → RulesHold loaded.old.rules qs → WritesTrails qs (rows_of sets.old count) sets.new loaded.old loaded.new result }
+    ensures writes { (qs : List RuleText) → Machine machine.now loaded.old.rule_count qs
+        → RulesHold loaded.old.rules qs → WritesTrails qs (rows_of sets.old count) sets.new
+        loaded.old loaded.new result }
 {
     let mut count = count;
     // By number, since a rule's trail start is in the set of its number.
@@ -322,7 +331,8 @@ fn build(
     requires most { length rows.old ≤ 1024 }
     requires rules { loaded.old.rule_count ≤ 64 }
     requires conditions { loaded.old.condition_count ≤ 8 }
-    ensures { (f : RuleFile) → Read f machine.old positions loaded.old rows.old → Builds f loaded.new rows.old rows.new result }
+    ensures { (f : RuleFile) → Read f machine.old positions loaded.old rows.old
+        → Builds f loaded.new rows.old rows.new result }
 {
     takers(machine, positions);
     let started = write_starts(machine, loaded, sets)?;
@@ -344,7 +354,8 @@ fn build_in(
     requires most { length rows.old ≤ 1024 }
     requires rules { loaded.old.rule_count ≤ 64 }
     requires conditions { loaded.old.condition_count ≤ 8 }
-    ensures { (f : RuleFile) → Read f work.old positions loaded.old rows.old → Builds f loaded.new rows.old rows.new result }
+    ensures { (f : RuleFile) → Read f work.old positions loaded.old rows.old
+        → Builds f loaded.new rows.old rows.new result }
 {
     let (machine, sets) = work.split_first_chunk_mut::<MACHINE_SETS>()?;
     build(machine, positions, loaded, &mut sets[0..rows.len()], rows)
@@ -373,7 +384,8 @@ pub fn load(
     rows: &mut [Row],
     work: &mut [PositionSet],
 ) -> Result<Sizes, Fault>
-    ensures { Loads file.now (memory loaded.old rows.old) (memory loaded.new rows.new) work.old work.new result }
+    ensures { Loads file.now (memory loaded.old rows.old)
+        (memory loaded.new rows.new) work.old work.new result }
 {
     if !is_enough(rows.len(), work.len()) {
         return Err(refused(Refusal::Memory, 0));

@@ -37,8 +37,10 @@ fn takers_of(machine: &[PositionSet; MACHINE_SETS], positions: usize, b: usize) 
 // Writes the takers of every byte.
 pub(crate) fn takers(machine: &mut [PositionSet; MACHINE_SETS], positions: usize)
     requires { positions ≤ 512 }
-    ensures memory { (k q : ℕ) → member machine.new k q ≡ cond (between 1280 1536 k) (nat_lt q positions && member machine.old q (k - 1280)) (member machine.old k q) }
-    ensures machine { (qs : List RuleText) → RulesLaid machine.old 0 0 qs → positions ≡ all_positions qs → length qs ≤ 64 → Machine machine.new (length qs) qs }
+    ensures memory { (k q : ℕ) → member machine.new k q ≡ cond (between 1280 1536 k)
+        (nat_lt q positions && member machine.old q (k - 1280)) (member machine.old k q) }
+    ensures machine { (qs : List RuleText) → RulesLaid machine.old 0 0 qs
+        → positions ≡ all_positions qs → length qs ≤ 64 → Machine machine.new (length qs) qs }
 {
     // By number, since what is written lies behind what is read in the same memory.
     for b in 0..256 {
@@ -74,9 +76,11 @@ pub(crate) fn start_set(
     at_line_start: bool,
 ) -> PositionSet
     requires { loaded.now.rule_count ≤ 64 }
-    ensures members { (t : ℕ) → has result.words t ≡ start_in machine.now loaded.now loaded.now.rule_count condition at_line_start t }
+    ensures members { (t : ℕ) → has result.words t ≡ start_in machine.now loaded.now
+        loaded.now.rule_count condition at_line_start t }
     ensures whole { Whole 8 result.words }
-    ensures starts { (qs : List RuleText) → Machine machine.now loaded.now.rule_count qs → RulesHold loaded.now.rules qs → members result ≡ start_of qs 0 condition at_line_start }
+    ensures starts { (qs : List RuleText) → Machine machine.now loaded.now.rule_count qs
+        → RulesHold loaded.now.rules qs → members result ≡ start_of qs 0 condition at_line_start }
 {
     let mut set = Bits::empty();
     // By number, since a rule's first positions are in the set of its number.
@@ -112,7 +116,8 @@ pub(crate) fn marks(
     set: &PositionSet,
 ) -> u64
     requires { (rules ≤ 64) × (base + rules ≤ 1536) }
-    ensures bits { (i : ℕ) → bit result i ≡ (nat_lt i rules && meets (members set.now) (set_at machine.now (base + i))) }
+    ensures bits { (i : ℕ) → bit result i ≡ (nat_lt i rules && meets (members set.now)
+        (set_at machine.now (base + i))) }
     ensures few { result < 2 ^ rules }
 {
     let mut marks = 0;

@@ -23,7 +23,9 @@ pub(crate) struct Place {
 impl Progress {
     // The place of one more rule, unless it passes a limit.
     pub(crate) fn place(self) -> Option<Place>
-        ensures { MatchOption result ((nat_lt self.rules 64 && nat_lt self.positions 512) ≡ false) (λ p. (p.rule ≡ self.rules) × (p.end ≡ self.positions)) }
+        ensures { MatchOption result ((nat_lt self.rules 64
+            && nat_lt self.positions 512) ≡ false) (λ p. (p.rule ≡ self.rules)
+            × (p.end ≡ self.positions)) }
     {
         if self.rules >= RULES || self.positions >= POSITIONS {
             return None;

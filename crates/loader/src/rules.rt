@@ -140,7 +140,8 @@ fn keep(work: &mut [PositionSet; WORK_SETS], place: Place, sets: &RuleSets)
 
 // Behind the last positions of r comes the end mark; there is no slash mark.
 fn without_trailing(work: &mut [PositionSet; WORK_SETS], place: Place, r: &Parsed)
-    ensures { (e : Expression) → Unjoined work.old place.end e r.now → Joined place.end place.rule work.old work.new e None }
+    ensures { (e : Expression) → Unjoined work.old place.end e r.now
+        → Joined place.end place.rule work.old work.new e None }
 {
     let ends = Bits::only(place.end);
     link(work, &r.part.last, &ends);
@@ -155,7 +156,8 @@ fn without_trailing(work: &mut [PositionSet; WORK_SETS], place: Place, r: &Parse
 
 // Where x may begin, and where what may be empty may end.
 fn trail_start(x: &Fragment, ends: &PositionSet) -> PositionSet
-    ensures { (q : ℕ) → has result.words q ≡ (has x.now.first.words q || (x.now.nullable && has ends.now.words q)) }
+    ensures { (q : ℕ) → has result.words q ≡ (has x.now.first.words q
+        || (x.now.nullable && has ends.now.words q)) }
 {
     if x.nullable {
         x.first.either(ends)
@@ -166,7 +168,9 @@ fn trail_start(x: &Fragment, ends: &PositionSet) -> PositionSet
 
 // Behind the last positions of r come the slash mark and the trail start, and behind those of x the end mark.
 fn with_trailing(work: &mut [PositionSet; WORK_SETS], place: Place, r: &Parsed, x: &Parsed)
-    ensures { (e g : Expression) → Unjoined work.old place.end e r.now → Unjoined work.old r.now.used g x.now → Joined place.end place.rule work.old work.new e (Some g) }
+    ensures { (e g : Expression) → Unjoined work.old place.end e r.now
+        → Unjoined work.old r.now.used g x.now
+        → Joined place.end place.rule work.old work.new e (Some g) }
 {
     let ends = Bits::only(place.end);
     let slashes = Bits::only(r.used);
@@ -188,7 +192,8 @@ fn trailing(
     r: &Parsed,
     work: &mut [PositionSet; WORK_SETS],
 ) -> Result<Option<Parsed>, Fault>
-    ensures gives { (e : Expression) → TrailingGives (trailing_at s.now (parsed_as r.now e)) e r.now work.old work.new result }
+    ensures gives { (e : Expression) → TrailingGives (trailing_at s.now (parsed_as r.now e)) e r.now
+        work.old work.new result }
     ensures moves { IfOk result (λ t. IfSome t (λ x. (r.now.at < x.at) × (x.at ≤ length s.now))) }
 {
     if stands(s, r.at, b'$') {
@@ -223,7 +228,8 @@ fn pattern_at(
     place: Place,
     work: &mut [PositionSet; WORK_SETS],
 ) -> Result<Read<usize>, Fault>
-    ensures gives { PatternGives (pattern_at s.now at (place.end + 1)) place.end place.rule work.old work.new result }
+    ensures gives { PatternGives (pattern_at s.now at (place.end + 1)) place.end place.rule work.old
+        work.new result }
     ensures moves { Moves result at (length s.now) }
 {
     let r = marked_expression(s, at, place.end, work)?;
@@ -264,7 +270,8 @@ fn rule_body(
     place: Place,
     work: &mut [PositionSet; WORK_SETS],
 ) -> Result<RuleRead, Fault>
-    ensures { LineGives (behind_active s.now (known conditions.now) place.end (picked_of active.now)) place.end place.rule work.old work.new result }
+    ensures { LineGives (behind_active s.now (known conditions.now) place.end
+        (picked_of active.now)) place.end place.rule work.old work.new result }
 {
     let anchored = stands(s, active.next, b'^');
     let Read { value: used, next } = pattern_at(s, past_anchor(s, active.next), place, work)?;
@@ -290,7 +297,8 @@ fn rule_line(
     done: Progress,
     work: &mut [PositionSet; WORK_SETS],
 ) -> Result<RuleRead, Fault>
-    ensures { LineGives (rule_line line.now.text.now (known conditions.now) done.rules line.now.start done.positions) done.positions done.rules work.old work.new result }
+    ensures { LineGives (rule_line line.now.text.now (known conditions.now) done.rules
+        line.now.start done.positions) done.positions done.rules work.old work.new result }
 {
     let first = line.text.get(line.start);
     if !first.is_some_and(|b| starts_rule(*b)) {
@@ -326,7 +334,8 @@ fn add_rule(
     loaded: &mut Loaded,
     work: &mut [PositionSet; WORK_SETS],
 ) -> Result<Progress, Fault>
-    ensures { Adds line.now.text.now (known conditions.now) line.now.start done work.old work.new loaded.old loaded.new result }
+    ensures { Adds line.now.text.now (known conditions.now) line.now.start done work.old work.new
+        loaded.old loaded.new result }
 {
     let read = rule_line(line, conditions, done, work)?;
     loaded.rules[done.rules] = read.rule;
