@@ -10,14 +10,14 @@ use Rattle.bits.specs.Sets.{member, InUnion}
 use Rattle.bits.proofs.Words.{bit_zero, has_at, has_past}
 
 -- u is the union of those of the sets whose numbers are in ws, as far as they are below `end`
-pub record Joining (W : ℕ) (ws : List ℕ) (sets : List (Bits W)) (u : List ℕ) (end : ℕ) : Type 0 where
-  pub whole : Whole W u
+pub record Joining (V : ℕ) (ws : List ℕ) (sets : List (Bits V)) (u : List ℕ) (end : ℕ) : Type 0 where
+  pub whole : Whole V u
   pub within : (j : ℕ) → has u j ≡ true → InUnion ws sets j
   pub all : (j k : ℕ) → k < end → has ws k ≡ true → member sets k j ≡ true → has u j ≡ true
 
 -- and of those in word i whose bit is not left
-pub record JoiningWord (W : ℕ) (ws : List ℕ) (sets : List (Bits W)) (u : List ℕ) (i left : ℕ) : Type 0 where
-  pub before : Joining W ws sets u (64 * i)
+pub record JoiningWord (V : ℕ) (ws : List ℕ) (sets : List (Bits V)) (u : List ℕ) (i left : ℕ) : Type 0 where
+  pub before : Joining V ws sets u (64 * i)
   pub small : left < 2 ^ 64
   pub of_word : (b : ℕ) → bit left b ≡ true → bit (get_or ws i 0) b ≡ true
   pub done : (j b : ℕ) → b < 64 → bit left b ≡ false → bit (get_or ws i 0) b ≡ true → member sets (64 * i + b) j ≡ true → has u j ≡ true
@@ -32,15 +32,8 @@ filled w b on = elim (cases_eq w 0) [
 pub past_last : {W : ℕ} → (sets : List (Bits W)) (k j : ℕ) → length sets ≤ k → member sets k j ≡ false
 past_last sets k j h = ap (λ (s : Bits _). has s.words j) (get_or_past sets k (record { words = [] }) h) ∙ has_past [] j (omega arith)
 
-pub joining_start : (W : ℕ) (ws : List ℕ) (sets : List (Bits W)) (u : List ℕ) → Whole W u → ((j : ℕ) → has u j ≡ false) → Joining W ws sets u 0
-joining_start W ws sets u h none = record {
-  whole = h;
-  within = λ j e. let f = none j in absurd (false≢true (sym f ∙ e));
-  all = λ j k l e m. absurd (omega arith);
-}
-
-module _ (W : ℕ) (ws : List ℕ) (sets : List (Bits W)) (u : List ℕ) (i : ℕ) where
-  pub word_start : Joining W ws sets u (64 * i) → get_or ws i 0 < 2 ^ 64 → JoiningWord W ws sets u i (get_or ws i 0)
+module _ (V : ℕ) (ws : List ℕ) (sets : List (Bits V)) (u : List ℕ) (i : ℕ) where
+  pub word_start : Joining V ws sets u (64 * i) → get_or ws i 0 < 2 ^ 64 → JoiningWord V ws sets u i (get_or ws i 0)
   word_start g l = record {
     before = g;
     small = l;
@@ -48,8 +41,8 @@ module _ (W : ℕ) (ws : List ℕ) (sets : List (Bits W)) (u : List ℕ) (i : �
     done = λ j b l off on m. absurd (false≢true (sym off ∙ on));
   }
 
-  module _ (left : ℕ) (g : JoiningWord W ws sets u i left) where
-    pub word_done : ((b : ℕ) → b < 64 → bit left b ≡ false) → Joining W ws sets u (64 * (i + 1))
+  module _ (left : ℕ) (g : JoiningWord V ws sets u i left) where
+    pub word_done : ((b : ℕ) → b < 64 → bit left b ≡ false) → Joining V ws sets u (64 * (i + 1))
     word_done none = record {
       whole = g.before.whole;
       within = g.before.within;
@@ -64,7 +57,7 @@ module _ (W : ℕ) (ws : List ℕ) (sets : List (Bits W)) (u : List ℕ) (i : �
     }
 
     -- the lowest bit that is left
-    module _ (b : ℕ) (small : b < 64) (on : bit left b ≡ true) (u' : List ℕ) (h : Whole W u') (joined : (j : ℕ) → has u' j ≡ (has u j || member sets (64 * i + b) j))
+    module _ (b : ℕ) (small : b < 64) (on : bit left b ≡ true) (u' : List ℕ) (h : Whole V u') (joined : (j : ℕ) → has u' j ≡ (has u j || member sets (64 * i + b) j))
         (left' : ℕ) (less : left' < 2 ^ 64) (bits : (a : ℕ) → bit left' a ≡ (bit left a && not (eqb a b)))
       where
         in_set : has ws (64 * i + b) ≡ true
@@ -79,7 +72,7 @@ module _ (W : ℕ) (ws : List ℕ) (sets : List (Bits W)) (u : List ℕ) (i : �
           | inr new ↦ (64 * i + b, in_set, new)
         ]
 
-        pub word_more : JoiningWord W ws sets u' i left'
+        pub word_more : JoiningWord V ws sets u' i left'
         word_more = record {
           before = record { whole = h; within = within; all = λ j k l e m. kept j (g.before.all j k l e m) };
           small = less;
@@ -94,9 +87,9 @@ module _ (W : ℕ) (ws : List ℕ) (sets : List (Bits W)) (u : List ℕ) (i : �
             still a other off = let e = bits a in let f = ne_eqb a b other in grind (arith, nat_tests)
 
 -- no word is left
-pub union_done : (W : ℕ) (ws : List ℕ) (sets : List (Bits W)) (u : List ℕ) (end : ℕ) → Joining W ws sets u (64 * end) → length ws ≡ W → length sets < 2 ^ 64 → min W (2 ^ 58) ≤ end
+pub union_done : (V W : ℕ) (ws : List ℕ) (sets : List (Bits V)) (u : List ℕ) (end : ℕ) → Joining V ws sets u (64 * end) → length ws ≡ W → length sets < 2 ^ 64 → min W (2 ^ 58) ≤ end
     → (j : ℕ) → Decides (has u j) (InUnion ws sets j)
-union_done W ws sets u end g w s h j = (g.within j, λ (k, e, m). at k e m)
+union_done V W ws sets u end g w s h j = (g.within j, λ (k, e, m). at k e m)
   where
     at : (k : ℕ) → has ws k ≡ true → member sets k j ≡ true → has u j ≡ true
     at k e m = elim (cases_lt k (64 * end)) [

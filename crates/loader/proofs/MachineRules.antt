@@ -9,7 +9,7 @@ use Rattle.patterns.proofs.Ranges.{takes_out, follows_out, last_out}
 use Rattle.bits.specs.Set.{has}
 use Rattle.bits.specs.declared.Bits.{Bits}
 use Rattle.positions.specs.Memory.{Work, member, between}
-use Rattle.positions.proofs.Sets.{between_in, between_below}
+use Rattle.positions.proofs.Sets.{between_in, between_below, between_past}
 use Rattle.grammar.specs.File.{RuleText, rule_size, all_positions}
 use Rattle.table.specs.declared.loaded.Rule.{Rule}
 use Rattle.table.specs.declared.loaded.Loaded.{Loaded}
@@ -22,7 +22,7 @@ use Rattle.automaton.specs.Automaton as automaton
 use Rattle.automaton.specs.Automaton.{after, live, start_set, trail_set, end_mark, slash_mark, leads}
 use Rattle.automaton.proofs.Members.{some_both}
 use Rattle.table.specs.Memory.{rule_at}
-use Rattle.loader.specs.Machine.{behind_of, live_in, leads_in, live_at, start_in, first_set, Machine}
+use Rattle.loader.specs.Machine.{behind_of, live_in, leads_in, live_at, start_in, first_set, Machine, Paired}
 
 -- a position that is none of n from a is none of m of them from c
 apart : (a n c m p : ℕ) → a ≤ c → c + m ≤ a + n → (p < a) ⊎ (a + n ≤ p) → (p < c) ⊎ (c + m ≤ p)
@@ -176,14 +176,11 @@ starts m l n c line s qs k h is = fun_ext (λ t. is t ∙ at t)
         ∙ started l.rules qs 0 c t line h
         )
 
--- the rules are in the first sets alone
-pub laid_in_front : (w : Work) (n : ℕ) (qs : List RuleText) → 1280 ≤ n → n ≤ length w → length qs ≤ 64 → RulesLaid w 0 0 qs → RulesLaid (take n w) 0 0 qs
-laid_in_front w n qs big within few l = laid_kept w (take n w) 0 0 qs l kept_in_front (omega arith)
+-- rules stay where the first sets do
+pub laid_same : (w w' : Work) (qs : List RuleText) → length qs ≤ 64 → ((k q : ℕ) → k < 1280 → member w' k q ≡ member w k q) → RulesLaid w 0 0 qs → RulesLaid w' 0 0 qs
+laid_same w w' qs few same l = laid_kept w w' 0 0 qs l kept_in_front (omega arith)
   where
-    same : (k q : ℕ) → k < 1280 → member (take n w) k q ≡ member w k q
-    same k q h = ap (λ (s : Bits 8). has s.words q) (get_or-take n w k (record { words = [] }) (omega arith))
-
-    kept_in_front : RulesKept 512 64 w (take n w)
+    kept_in_front : RulesKept 512 64 w w'
     kept_in_front = record {
       bytes = λ p q h. same p q (omega arith);
       order = λ p q h. same (512 + p) q (omega arith);
@@ -192,3 +189,16 @@ laid_in_front w n qs big within few l = laid_kept w (take n w) 0 0 qs l kept_in_
       ends = λ j q h. same (1152 + j) q (omega arith);
       slashes = λ j q h. same (1216 + j) q (omega arith);
     }
+
+-- the rules are in the first sets alone
+pub laid_in_front : (w : Work) (n : ℕ) (qs : List RuleText) → 1280 ≤ n → n ≤ length w → length qs ≤ 64 → RulesLaid w 0 0 qs → RulesLaid (take n w) 0 0 qs
+laid_in_front w n qs big within few l =
+    laid_same w (take n w) qs few (λ k q h. ap (λ (s : Bits 8). has s.words q) (get_or-take n w k (record { words = [] }) (omega arith))) l
+
+-- pairs stay when takers are added
+pub paired_kept : (w m : Work) (n : ℕ) → ((k q : ℕ) → member m k q ≡ cond (between 1280 1536 k) (ltb q n && member w q (k - 1280)) (member w k q)) → Paired w → Paired m
+paired_kept w m n added h p t lt =
+    let pair : member m (1536 + p) t ≡ member w (1536 + p) t = rw (added (1536 + p) t, between_past 1280 1536 (1536 + p) (omega arith)) refl in
+    let low : member m (512 + p) t ≡ member w (512 + p) t = rw (added (512 + p) t, between_below 1280 1536 (512 + p) (omega arith)) refl in
+    let high : member m (768 + p) t ≡ member w (768 + p) t = rw (added (768 + p) t, between_below 1280 1536 (768 + p) (omega arith)) refl in
+    rw (pair, low, high) (h p t lt)

@@ -54,6 +54,10 @@ pub record Machine (m : Work) (n : ℕ) (qs : List RuleText) : Type 0 where
   pub ends : (i : ℕ) → i < n → set_at m (1152 + i) ≡ end_mark qs 0 i
   pub slashes : (i : ℕ) → i < n → set_at m (1216 + i) ≡ slash_mark qs 0 i
 
+-- what may follow one of two positions that lie 256 apart
+abbrev pub Paired : Work → Type 0
+Paired m = (p t : ℕ) → p < 256 → member m (1536 + p) t ≡ (member m (512 + p) t || member m (768 + p) t)
+
 -- for each byte one that is not behind it and that the same positions take
 pub record Columns (m : Work) (cs : List ℕ) : Type 0 where
   pub not_behind : (b : ℕ) → b < 256 → slice_index cs b ≤ b

@@ -7,7 +7,7 @@ ghost use Rattle.table.specs.Memory.{memory};
 ghost use Rattle.table.specs.Zeros.{no_row};
 ghost use Rattle.loader.specs.Held.{RulesHold};
 ghost use Rattle.loader.specs.Load.{Loads, enough};
-ghost use Rattle.loader.specs.Machine.{members, Machine, Columns};
+ghost use Rattle.loader.specs.Machine.{members, Machine, Paired, Columns};
 ghost use Rattle.loader.specs.Building.{rows_of, Stored, Meets, Led, Leads, Enters, WritesRow, Grows, MeetsStart, OnlyStarts, WritesStarts, OnlyTrails, WritesTrails, Read, Builds};
 ghost use Rattle.loader.specs.Following.{TablesFollow};
 
@@ -21,7 +21,7 @@ use bits::{Bits, PositionSet};
 use finder::{Found, Full, find_or_add};
 use grammar::{Fault, Refusal, refused};
 use guesses::Guesses;
-use machine::{MACHINE_SETS, TAKERS, columns, follow, marks, start_set, takers};
+use machine::{MACHINE_SETS, TAKERS, columns, follow, marks, pair_up, start_set, takers};
 pub use rules::{Counts, FILE_BYTES, RULES, WORK_SETS, read_rules};
 use rules::{ENDS, SLASHES, TRAILS, lay_rules};
 use table::{Loaded, Row, StartRows};
@@ -118,6 +118,7 @@ fn lead_on(
     requires stored { Stored sets.old previous.count }
     requires led { Led machine.now (rows_of sets.old previous.count) previous }
     requires byte { b < 256 }
+    requires paired { Paired machine.now }
     ensures { Leads machine.now (rows_of sets.old previous.count)
         (members set.now) b sets.new result }
 {
@@ -160,6 +161,7 @@ fn enter(
     next: &mut [u16; 256],
 ) -> Option<usize>
     requires stored { Stored sets.old count }
+    requires paired { Paired machine.now }
     requires columns { Columns machine.now columns.now }
     ensures stored { IfSome result (λ n. Stored sets.new n) }
     ensures enters { (qs : List RuleText) (n : ℕ) → Machine machine.now n qs
@@ -192,6 +194,7 @@ fn write_row(
 ) -> Option<usize>
     requires stored { Stored sets.old count }
     requires few { rules ≤ 64 }
+    requires paired { Paired machine.now }
     requires columns { Columns machine.now columns.now }
     ensures stored { IfSome result (λ n. Stored sets.new n) }
     ensures writes { (qs : List RuleText) → Machine machine.now rules qs
@@ -213,6 +216,7 @@ fn grow(
     requires stored { Stored sets.old count }
     requires room { length sets.old ≡ length rows.old }
     requires few { rules ≤ 64 }
+    requires paired { Paired machine.now }
     ensures stored { IfSome result (λ n. Stored sets.new n) }
     ensures grows { (qs : List RuleText) → Machine machine.now rules qs
         → Grows qs rules (rows_of sets.old count) sets.new rows.old rows.new result }
@@ -334,6 +338,7 @@ fn build(
     ensures { (f : RuleFile) → Read f machine.old positions loaded.old rows.old
         → Builds f loaded.new rows.old rows.new result }
 {
+    pair_up(machine);
     takers(machine, positions);
     let started = write_starts(machine, loaded, sets)?;
     let trailed = write_trails(machine, loaded, sets, started)?;

@@ -6,18 +6,20 @@ ghost use Rattle.grammar.specs.File.{RuleText, all_positions};
 ghost use Rattle.loader.specs.Held.{RulesHold};
 ghost use Rattle.loader.specs.Laid.{RulesLaid};
 ghost use Rattle.automaton.specs.Automaton.{start_set as start_of, meets};
-ghost use Rattle.loader.specs.Machine.{members, set_at, behind_of, live_at, start_in, Machine, Columns};
+ghost use Rattle.loader.specs.Machine.{members, set_at, behind_of, live_at, start_in, Machine, Paired, Columns};
 
 use crate::rules::FIRSTS;
-use bits::{Bits, PositionSet};
+use bits::{Bits, ByteSet, PositionSet};
 use finder::find;
 use positions::POSITIONS;
 use table::{Loaded, Rule};
 
-// The sets that the rules leave, and for each byte the positions that take it.
-pub(crate) const MACHINE_SETS: usize = 1536;
+// The sets that the rules leave, for each byte the positions that take it, and for each pair of positions what follows them.
+pub(crate) const MACHINE_SETS: usize = 1792;
 
 pub(crate) const TAKERS: usize = 1280;
+
+const PAIRS: usize = 1536;
 
 // The positions below `positions` that take the byte b.
 fn takers_of(machine: &[PositionSet; MACHINE_SETS], positions: usize, b: usize) -> PositionSet
@@ -45,6 +47,17 @@ pub(crate) fn takers(machine: &mut [PositionSet; MACHINE_SETS], positions: usize
     // By number, since what is written lies behind what is read in the same memory.
     for b in 0..256 {
         machine[TAKERS + b] = takers_of(machine, positions, b);
+    }
+}
+
+// Writes for each position p below 256 what may come straight behind p or p + 256.
+pub(crate) fn pair_up(machine: &mut [PositionSet; MACHINE_SETS])
+    ensures kept { (k q : ℕ) → k < 1536 → member machine.new k q ≡ member machine.old k q }
+    ensures paired { Paired machine.new }
+{
+    // By number, since what is written lies behind what is read in the same memory.
+    for p in 0..256 {
+        machine[PAIRS + p] = machine[POSITIONS + p].either(&machine[POSITIONS + 256 + p]);
     }
 }
 
@@ -92,12 +105,27 @@ pub(crate) fn start_set(
     set
 }
 
-// What may come straight behind these positions.
+// What may come straight behind these positions. Of many, two that lie 256 apart are taken at once, which are then at most 256.
 pub(crate) fn follow(machine: &[PositionSet; MACHINE_SETS], live: &PositionSet) -> PositionSet
+    requires { Paired machine.now }
     ensures members { (t : ℕ) → has result.words t ≡ behind_of machine.now (members live.now) t }
     ensures whole { Whole 8 result.words }
 {
-    live.union_of(&machine[POSITIONS..POSITIONS + POSITIONS])
+    let low: ByteSet = live.resized();
+    let high: ByteSet = live.words_from(4);
+    let both = low.common(&high);
+    if both.is_empty() {
+        return live.union_of(&machine[POSITIONS..POSITIONS + POSITIONS]);
+    }
+    let apart = both.complement();
+    let pairs = both.union_of(&machine[PAIRS..PAIRS + 256]);
+    let lows = low
+        .common(&apart)
+        .union_of(&machine[POSITIONS..POSITIONS + 256]);
+    let highs = high
+        .common(&apart)
+        .union_of(&machine[POSITIONS + 256..POSITIONS + POSITIONS]);
+    pairs.either(&lows).either(&highs)
 }
 
 // Whether some position is in both. It is no `meets` of theirs, whose contract doesn't say that what is in both lies below
