@@ -56,7 +56,8 @@ pub record Machine (m : Work) (n : ℕ) (qs : List RuleText) : Type 0 where
 
 -- what may follow one of two positions that lie 256 apart
 abbrev pub Paired : Work → Type 0
-Paired m = (p t : ℕ) → p < 256 → member m (1536 + p) t ≡ (member m (512 + p) t || member m (768 + p) t)
+Paired m = (p t : ℕ) → p < 256 → member m (1536 + p) t ≡ (member m (512 + p) t
+    || member m (768 + p) t)
 
 -- for each byte one that is not behind it and that the same positions take
 pub record Columns (m : Work) (cs : List ℕ) : Type 0 where
