@@ -1,0 +1,87 @@
+-- Lines and answers tell all that the plain book knows, and what stands in the strip.
+use Rattle.std.proofs.Common.{◌≡◌, ℕ, suc, ◌+◌, ◌-◌, Bool, true, false, ◌&&◌, List, [], ◌∷◌, if◌then◌else◌, nat_lt, nat_le, Some, None, Option, refl, sym, ap, subst, ◌∙◌, arith}
+use lib.Seq.{paste}
+use Rattle.places.specs.declared.Reading.{Reading}
+use Rattle.places.specs.Order.{first_of, next_of}
+use Rattle.plain.specs.declared.Line.{Line}
+use Rattle.plain.specs.declared.Line.TheVariants.{Next, Reject, Accept, Keep, Extend, Begin, PutBack}
+use Rattle.plain.specs.Book.{World, Plain, Turn, opened, denied, offers, takes, begins, puts_back, idle, holding, turn_with, turn, after, answers}
+use Rattle.plain.specs.Transcript.{Entry, latest_first, deed, place_told, in_hand, offered}
+use Rattle.plain.specs.Strip.{copied, strip_told, strip_after}
+use Rattle.plain.specs.Theorems.{book_told, BookIsTold, StripIsTold}
+
+abbrev pub entry : Line → Turn → Entry
+entry line t = record { line = line; answer = t.answer }
+
+module _ (w : World) (supplied : List ℕ) (slack : ℕ) where
+  -- what the entries tell
+  abbrev pub book_by : List Entry → Plain
+  book_by es = book_told w.capacity supplied slack es
+
+  module _ (es : List Entry) where
+    -- the book after this turn is told
+    abbrev Tells : Line → Turn → Type 0
+    Tells line t = t.book ≡ book_by (entry line t ∷ es)
+
+    denied_tells : (line : Line) (n : ℕ) → Tells line (denied (suc n) (book_by es))
+    denied_tells line n = refl
+
+    next_tells : (o : Option Reading) → Tells Next (offers 21 [] o (book_by es))
+    next_tells None = refl
+    next_tells (Some reading) = refl
+
+    reject_tells : (o : Option Reading) → Tells Reject (offers 22 (offered es) o (book_by es))
+    reject_tells None = refl
+    reject_tells (Some reading) = refl
+
+    -- whatever a test says
+    by_test : (line : Line) (test : Bool) (s t : Turn) → Tells line s → Tells line t → Tells line (if test then s else t)
+    by_test line true s t first other = first
+    by_test line false s t first other = other
+
+    idle_tells : (line : Line) → Tells line (idle w (book_by es) line)
+    idle_tells Next = next_tells (first_of (w.listing (place_told supplied es)))
+    idle_tells Reject = refl
+    idle_tells Accept = refl
+    idle_tells (Keep n) = refl
+    idle_tells Extend = refl
+    idle_tells (Begin c) = by_test (Begin c) (nat_lt c w.conditions) (begins c (book_by es)) (denied 25 (book_by es)) refl refl
+    idle_tells (PutBack b) = by_test (PutBack b) (nat_lt 0 (book_by es).slack) (puts_back b (book_by es)) (denied 12 (book_by es)) refl refl
+
+    holding_tells : (d : Reading) (line : Line) → Tells line (holding w (book_by es) d line)
+    holding_tells d Next = refl
+    holding_tells d Reject = reject_tells (next_of d.rule d.total (w.listing (place_told supplied es)))
+    holding_tells d Accept = refl
+    holding_tells d (Keep n) =
+        let b = book_by es in
+        by_test (Keep n) (nat_lt b.kept n && nat_le n (b.kept + d.head)) (takes w (n - b.kept) 0 b) (denied 23 b) refl refl
+    holding_tells d Extend =
+        let b = book_by es in
+        by_test Extend (nat_le (b.kept + d.head) 3072) (takes w d.head (b.kept + d.head) b) (denied 24 b) refl refl
+    holding_tells d (Begin c) = refl
+    holding_tells d (PutBack b) = refl
+
+    turn_tells : (o : Option Reading) (line : Line) → Tells line (turn_with o w (book_by es) line)
+    turn_tells None line = idle_tells line
+    turn_tells (Some d) line = holding_tells d line
+
+  pub one_told : (b : Plain) (es : List Entry) (line : Line) → b ≡ book_by es → (turn w b line).book ≡ book_by (entry line (turn w b line) ∷ es)
+  one_told b es line e =
+      subst (λ (x : Plain). (turn w x line).book ≡ book_by (entry line (turn w x line) ∷ es)) (sym e) (turn_tells es (in_hand es) line)
+
+  pub all_told : (b : Plain) (es : List Entry) (lines : List Line) → b ≡ book_by es → after w b lines ≡ book_by (latest_first lines (answers w b lines) es)
+  all_told b es [] e = e
+  all_told b es (line ∷ lines) e = all_told (turn w b line).book (entry line (turn w b line) ∷ es) lines (one_told b es line e)
+
+  module _ (es : List Entry) where
+    -- a line copies to the kept count, by the answer
+    Copies : Line → Turn → Type 0
+    Copies line t =
+        (strip : List ℕ) → copied (deed (entry line t)) (book_by es).kept (place_told supplied es).rest strip
+        ≡ copied (deed (entry line t)) (t.answer.yyleng - t.answer.head) (place_told supplied es).rest strip
+
+    offer_copies : (line : Line) (n : ℕ) (earlier : List Reading) (o : Option Reading) → Copies line (offers n earlier o (book_by es))
+    offer_copies line n earlier o = ?
+
+pub book_is_told : BookIsTold
+book_is_told w supplied slack lines = all_told w supplied slack (opened supplied slack) [] lines refl
