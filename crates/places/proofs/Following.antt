@@ -50,7 +50,7 @@ first_found : (d : Reading) (ds : List Reading) → All (Follows d) ds → find 
 first_found d [] all = refl
 first_found d (e ∷ ds) all = cond-true (comes_after d.rule d.total e) (Some e) (find (comes_after d.rule d.total) ds) (all 0 e (omega arith))
 
-found_behind : (before behind : List Reading) (d : Reading) → AllPairs Follows (before ++ (d ∷ behind)) → next_of d.rule d.total (before ++ (d ∷ behind)) ≡ first_of behind
+pub found_behind : (before behind : List Reading) (d : Reading) → AllPairs Follows (before ++ (d ∷ behind)) → next_of d.rule d.total (before ++ (d ∷ behind)) ≡ first_of behind
 found_behind [] behind d o =
     cond-false (comes_after d.rule d.total d) (Some d) (find (comes_after d.rule d.total) behind) (not_itself d)
     ∙ first_found d behind (first_precedes d behind o)
