@@ -10,7 +10,7 @@ use Rattle.places.specs.Order.{first_of, next_of}
 use Rattle.places.proofs.Following.{Follows, found_behind}
 use Rattle.plain.specs.declared.Line.{Line}
 use Rattle.plain.specs.declared.Line.TheVariants.{Next, Reject, Accept, Keep, Extend, Begin, PutBack}
-use Rattle.plain.specs.Book.{World, Plain, Turn, opened, denied, offers, takes, begins, puts_back, idle, holding, turn_with, turn, after, answers}
+use Rattle.plain.specs.Book.{World, Plain, Turn, denied, offers, takes, begins, puts_back, idle, holding, turn_with}
 use Rattle.plain.specs.Transcript.{Entry, deed, Taking, place_told, place_of_next, offered, in_hand, taken, put_back, kept_told}
 use Rattle.plain.specs.Lawful.{MayTake, HoldsAfter, RejectIsRight}
 use Rattle.plain.specs.Theorems.{IsListedRight}
@@ -165,11 +165,11 @@ module _ (w : World) (lists : IsListedRight w.listing) (supplied : List ℕ) (sl
       holding_keeps (Keep n) =
           by_test (Keep n) (nat_lt book.kept n && nat_le n (book.kept + d.head)) (takes w (n - book.kept) 0 book) (denied 23 book)
           (λ t.
-              let both = and_parts (nat_lt book.kept n) (nat_le n (book.kept + d.head)) t in
-              let least = ltb-true book.kept n both.0 in
-              let most = leb-true n (book.kept + d.head) both.1 in
-              let may : MayTake place.rest (n - book.kept) = record { some = omega arith; most = omega (arith, h.may.most); within = omega (arith, h.may.within) } in
-              took _ (n - book.kept) refl may (omega arith))
+          let both = and_parts (nat_lt book.kept n) (nat_le n (book.kept + d.head)) t in
+          let least = ltb-true book.kept n both.0 in
+          let most = leb-true n (book.kept + d.head) both.1 in
+          let may : MayTake place.rest (n - book.kept) = record { some = omega arith; most = omega (arith, h.may.most); within = omega (arith, h.may.within) } in
+          took _ (n - book.kept) refl may (omega arith))
           (denied_keeps (Keep n) 22)
       holding_keeps Extend =
           by_test Extend (nat_le (book.kept + d.head) 3072) (takes w d.head (book.kept + d.head) book) (denied 24 book)

@@ -1,5 +1,5 @@
 -- Lines and answers tell all that the plain book knows, and what stands in the strip.
-use Rattle.std.proofs.Common.{◌≡◌, ℕ, suc, ◌+◌, ◌-◌, Bool, true, false, ◌&&◌, List, [], ◌∷◌, if◌then◌else◌, nat_lt, nat_le, Some, None, Option, refl, sym, ap, subst, ◌∙◌, arith}
+use Rattle.std.proofs.Common.{◌≡◌, ℕ, suc, ◌+◌, ◌-◌, Bool, true, false, ◌&&◌, List, [], ◌∷◌, if◌then◌else◌, nat_lt, nat_le, Some, None, Option, refl, sym, ap, subst, arith}
 use lib.Seq.{paste}
 use Rattle.places.specs.declared.Reading.{Reading}
 use Rattle.places.specs.Order.{first_of, next_of}

@@ -1,14 +1,13 @@
 -- The laws over every list of lines.
-use Rattle.std.proofs.Common.{◌≡◌, ◌≢◌, ℕ, zero, suc, ◌+◌, ◌<◌, ◌≤◌, List, [], ◌∷◌, ◌++◌, length, take, Some, Option, refl, sym, ap, subst, ◌∙◌, inl, inr, append_assoc, arith}
+use Rattle.std.proofs.Common.{◌≡◌, ◌≢◌, ℕ, suc, ◌+◌, ◌<◌, ◌≤◌, List, [], ◌∷◌, ◌++◌, length, take, Some, Option, refl, sym, ap, subst, ◌∙◌, inl, inr, append_assoc, arith}
 use Rattle.std.specs.List.{All}
 use Rattle.std.proofs.lemmas.Bool.{cases_lt}
 use Rattle.std.proofs.lemmas.List.{take_all, length-take, length-append}
 use Rattle.std.proofs.lemmas.List.Elements.{All-head, All-tail}
 use Rattle.places.specs.declared.Reading.{Reading}
-use Rattle.places.specs.Listing.{Place}
 use Rattle.plain.specs.declared.Line.{Line}
 use Rattle.plain.specs.declared.Line.TheVariants.{Reject}
-use Rattle.plain.specs.Book.{World, Plain, opened, holding, turn, turn_with, after, answers}
+use Rattle.plain.specs.Book.{World, Plain, opened, turn, turn_with, answers}
 use Rattle.plain.specs.Transcript.{Entry, Deed, Following, Taking, Nothing, given, deed, deed_of, latest_first, place_told, place_of_next, place_with, offered, offered_with, in_hand, hand_with}
 use Rattle.plain.specs.Lawful.{MayTake, HoldsAfter, RejectIsRight, Lawful}
 use Rattle.plain.specs.Theorems.{IsListedRight, transcript, BookIsLawful, NeverPastEnd}
