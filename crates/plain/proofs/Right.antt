@@ -12,7 +12,7 @@ use Rattle.plain.specs.declared.Line.{Line}
 use Rattle.plain.specs.declared.Line.TheVariants.{Next, Reject, Accept, Keep, Extend, Begin, PutBack}
 use Rattle.plain.specs.Book.{World, Plain, Turn, denied, offers, takes, begins, puts_back, idle, holding, turn_with}
 use Rattle.plain.specs.Transcript.{Entry, deed, Taking, place_told, place_of_next, offered, in_hand, taken, put_back, kept_told}
-use Rattle.plain.specs.Lawful.{MayTake, HoldsAfter, RejectIsRight}
+use Rattle.plain.specs.Lawful.{MayTake, HoldsAfter, NextIsRight, RejectIsRight}
 use Rattle.plain.specs.Theorems.{IsListedRight}
 use Rattle.plain.proofs.Lists.{first_is, none_is, all_at, first_part, parted, no_two}
 use Rattle.plain.proofs.Told.{entry, book_by}
@@ -84,6 +84,16 @@ module _ (w : World) (lists : IsListedRight w.listing) (supplied : List ℕ) (sl
           };
           takes = λ n e. absurd (cc);
         }
+
+    next_by : (o : Option Reading) → first_of (w.listing place) ≡ o → NextIsRight Given supplied (entry Next (offers 21 [] o book)) es
+    next_by None e = record { denied = λ listing same none. refl; granted = λ listing same some. absurd (some (same ∙ none_is (w.listing place) e)) }
+    next_by (Some d) e = record {
+      denied = λ listing same none. let nothing : None ≡ Some d = ap first_of (sym none ∙ same) ∙ e in absurd (cc);
+      granted = λ listing same some. refl;
+    }
+
+    pub next_right : NextIsRight Given supplied (entry Next (idle w book Next)) es
+    next_right = next_by (first_of (w.listing place)) refl
 
     -- bytes are taken
     took : (e : Entry) (n : ℕ) → deed e ≡ Taking n → MayTake place.rest n → kept_told (e ∷ es) ≤ 3072 → Keeps e

@@ -144,6 +144,10 @@ module _ (IsFirst IsSecond : Place → List Reading → Type 0) (supplied : List
       balance = h.balance;
       remains = h.remains;
     };
+    nexts = λ later before e q line held. let r = l.nexts later before e q line held in record {
+      denied = λ ds is. r.denied ds (first_is _ ds is);
+      granted = λ ds is. r.granted ds (first_is _ ds is);
+    };
     rejects = λ later before e d q line held. let r = l.rejects later before e d q line held in record {
       denied = λ ds is. r.denied ds (first_is _ ds is);
       granted = λ ds is. r.granted ds (first_is _ ds is);

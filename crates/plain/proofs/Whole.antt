@@ -1,18 +1,18 @@
 -- The laws over every list of lines.
-use Rattle.std.proofs.Common.{◌≡◌, ◌≢◌, ℕ, suc, ◌+◌, ◌<◌, ◌≤◌, List, [], ◌∷◌, ◌++◌, length, take, Some, Option, refl, sym, ap, subst, ◌∙◌, inl, inr, append_assoc, arith}
+use Rattle.std.proofs.Common.{◌≡◌, ◌≢◌, ℕ, suc, ◌+◌, ◌<◌, ◌≤◌, List, [], ◌∷◌, ◌++◌, length, take, Some, None, Option, refl, sym, ap, subst, ◌∙◌, inl, inr, append_assoc, arith}
 use Rattle.std.specs.List.{All}
 use Rattle.std.proofs.lemmas.Bool.{cases_lt}
 use Rattle.std.proofs.lemmas.List.{take_all, length-take, length-append}
 use Rattle.std.proofs.lemmas.List.Elements.{All-head, All-tail}
 use Rattle.places.specs.declared.Reading.{Reading}
 use Rattle.plain.specs.declared.Line.{Line}
-use Rattle.plain.specs.declared.Line.TheVariants.{Reject}
+use Rattle.plain.specs.declared.Line.TheVariants.{Next, Reject}
 use Rattle.plain.specs.Book.{World, Plain, opened, turn, turn_with, answers}
 use Rattle.plain.specs.Transcript.{Entry, Deed, Following, Taking, Nothing, given, deed, deed_of, latest_first, place_told, place_of_next, place_with, offered, offered_with, in_hand, hand_with}
-use Rattle.plain.specs.Lawful.{MayTake, HoldsAfter, RejectIsRight, Lawful}
+use Rattle.plain.specs.Lawful.{MayTake, HoldsAfter, NextIsRight, RejectIsRight, Lawful}
 use Rattle.plain.specs.Theorems.{IsListedRight, transcript, BookIsLawful, NeverPastEnd}
 use Rattle.plain.proofs.Told.{entry, book_by, one_told, all_told}
-use Rattle.plain.proofs.Right.{Given, Right, Keeps, right_holds, turn_keeps, reject_right, opened_right}
+use Rattle.plain.proofs.Right.{Given, Right, Keeps, right_holds, turn_keeps, next_right, reject_right, opened_right}
 
 -- what a refused line has done, and a reject that was granted
 denied_deed : (e : Entry) (n : ℕ) → e.answer.number ≡ suc n → deed e ≡ Nothing
@@ -22,6 +22,9 @@ following_deed : (e : Entry) → e.line ≡ Reject → e.answer.number ≡ 0 →
 following_deed e l q = ap (λ (k : ℕ). deed_of k e.line e.answer) q ∙ ap (λ (x : Line). deed_of 0 x e.answer) l
 
 module _ (w : World) (lists : IsListedRight w.listing) (supplied : List ℕ) (slack : ℕ) where
+  abbrev IsNext : Entry → List Entry → Type 0
+  IsNext = NextIsRight (Given w lists supplied slack) supplied
+
   abbrev IsRight : Entry → List Entry → Type 0
   IsRight = RejectIsRight (Given w lists supplied slack) supplied
 
@@ -34,16 +37,24 @@ module _ (w : World) (lists : IsListedRight w.listing) (supplied : List ℕ) (sl
   -- the laws of a transcript, but for the one that follows from them
   record Moments (transcript : List Entry) : Type 0 where
     holds : (later before : List Entry) → transcript ≡ later ++ before → Holds before
+    nexts : (later before : List Entry) (e : Entry) → transcript ≡ later ++ (e ∷ before) → e.line ≡ Next → in_hand before ≡ None → IsNext e before
     rejects :
         (later before : List Entry) (e : Entry) (d : Reading) → transcript ≡ later ++ (e ∷ before) →
         e.line ≡ Reject → in_hand before ≡ Some d → IsRight e before
     takes : (later before : List Entry) (e : Entry) (n : ℕ) → transcript ≡ later ++ (e ∷ before) → deed e ≡ Taking n → May before n
 
   -- one entry more
-  module _ (es : List Entry) (e : Entry) (m : Moments es) (now : Holds (e ∷ es)) (right : (d : Reading) → e.line ≡ Reject → in_hand es ≡ Some d → IsRight e es) (may : (n : ℕ) → deed e ≡ Taking n → May es n) where
+  module _ (es : List Entry) (e : Entry) (m : Moments es) (now : Holds (e ∷ es)) (first : e.line ≡ Next → in_hand es ≡ None → IsNext e es) (right : (d : Reading) → e.line ≡ Reject → in_hand es ≡ Some d → IsRight e es) (may : (n : ℕ) → deed e ≡ Taking n → May es n) where
     holds_more : (later before : List Entry) → e ∷ es ≡ later ++ before → Holds before
     holds_more [] before q = subst Holds q now
     holds_more (x ∷ later) before q = m.holds later before (cc)
+
+    nexts_more : (later before : List Entry) (f : Entry) → e ∷ es ≡ later ++ (f ∷ before) → f.line ≡ Next → in_hand before ≡ None → IsNext f before
+    nexts_more [] before f q line held =
+        let same : e ≡ f = cc in
+        let others : es ≡ before = cc in
+        subst (λ (x : Entry). IsNext x before) same (subst (IsNext e) others (first (cc) (cc)))
+    nexts_more (x ∷ later) before f q line held = m.nexts later before f (cc) line held
 
     rejects_more : (later before : List Entry) (f : Entry) (d : Reading) → e ∷ es ≡ later ++ (f ∷ before) → f.line ≡ Reject → in_hand before ≡ Some d → IsRight f before
     rejects_more [] before f d q line held =
@@ -60,14 +71,18 @@ module _ (w : World) (lists : IsListedRight w.listing) (supplied : List ℕ) (sl
     takes_more (x ∷ later) before f n q did = m.takes later before f n (cc) did
 
     moments_more : Moments (e ∷ es)
-    moments_more = record { holds = holds_more; rejects = rejects_more; takes = takes_more }
+    moments_more = record { holds = holds_more; nexts = nexts_more; rejects = rejects_more; takes = takes_more }
 
   moments_none : Moments []
-  moments_none = record { holds = none_holds; rejects = none_rejects; takes = none_takes }
+  moments_none = record { holds = none_holds; nexts = none_nexts; rejects = none_rejects; takes = none_takes }
     where
       none_holds : (later before : List Entry) → [] ≡ later ++ before → Holds before
       none_holds [] before q = subst Holds q (right_holds w lists supplied slack [] (opened_right w lists supplied slack))
       none_holds (x ∷ later) before q = absurd (cc)
+
+      none_nexts : (later before : List Entry) (f : Entry) → [] ≡ later ++ (f ∷ before) → f.line ≡ Next → in_hand before ≡ None → IsNext f before
+      none_nexts [] before f q line held = absurd (cc)
+      none_nexts (x ∷ later) before f q line held = absurd (cc)
 
       none_rejects : (later before : List Entry) (f : Entry) (d : Reading) → [] ≡ later ++ (f ∷ before) → f.line ≡ Reject → in_hand before ≡ Some d → IsRight f before
       none_rejects [] before f d q line held = absurd (cc)
@@ -87,6 +102,15 @@ module _ (w : World) (lists : IsListedRight w.listing) (supplied : List ℕ) (sl
         let Kept : Plain → Type 0 = λ x. Keeps w lists supplied slack es k (entry line (turn w x line)) in
         subst Kept (sym told) (turn_keeps w lists supplied slack es k (in_hand es) refl line)
 
+    next_is_right : line ≡ Next → in_hand es ≡ None → IsNext next es
+    next_is_right l held =
+        let here = book_by w supplied slack es in
+        let IsBy : Option Reading → Type 0 = λ o. IsNext (entry Next (turn_with o w here Next)) es in
+        let right : IsBy (in_hand es) = subst IsBy (sym held) (next_right w lists supplied slack es k) in
+        let IsAt : Plain → Type 0 = λ x. IsNext (entry Next (turn w x Next)) es in
+        let at_book : IsAt b = subst IsAt (sym told) right in
+        subst (λ (x : Line). IsNext (entry x (turn w b x)) es) (sym l) at_book
+
     reject_is_right : (d : Reading) → line ≡ Reject → in_hand es ≡ Some d → IsRight next es
     reject_is_right d l held =
         let here = book_by w supplied slack es in
@@ -97,7 +121,7 @@ module _ (w : World) (lists : IsListedRight w.listing) (supplied : List ℕ) (sl
         subst (λ (x : Line). IsRight (entry x (turn w b x)) es) (sym l) at_book
 
     more : Moments es → Moments (next ∷ es)
-    more m = moments_more es next m (right_holds w lists supplied slack (next ∷ es) keeps.right) reject_is_right keeps.takes
+    more m = moments_more es next m (right_holds w lists supplied slack (next ∷ es) keeps.right) next_is_right reject_is_right keeps.takes
 
   pub run_right : (b : Plain) (es : List Entry) (lines : List Line) → b ≡ book_by w supplied slack es → Right w lists supplied slack es → Right w lists supplied slack (latest_first lines (answers w b lines) es)
   run_right b es [] told k = k
@@ -172,6 +196,7 @@ module _ (w : World) (lists : IsListedRight w.listing) (supplied : List ℕ) (sl
   lawful : (all : List Entry) → Moments all → Lawful (Given w lists supplied slack) supplied all
   lawful all m = record {
     holds = m.holds;
+    nexts = m.nexts;
     rejects = m.rejects;
     all_offered = λ later rejects before d listing q lines held is. (going all m before d listing held is later rejects q lines).so_far;
     takes = m.takes;
