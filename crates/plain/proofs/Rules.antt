@@ -144,16 +144,18 @@ module _ (IsFirst IsSecond : Place → List Reading → Type 0) (supplied : List
       balance = h.balance;
       remains = h.remains;
     };
-    nexts = λ later before e q line held. let r = l.nexts later before e q line held in record {
-      denied = λ ds is. r.denied ds (first_is _ ds is);
-      granted = λ ds is. r.granted ds (first_is _ ds is);
-    };
-    rejects = λ later before e d q line held. let r = l.rejects later before e d q line held in record {
-      denied = λ ds is. r.denied ds (first_is _ ds is);
-      granted = λ ds is. r.granted ds (first_is _ ds is);
+    right = λ later before e q. let r = l.right later before e q in record {
+      next = λ line held. let n = r.next line held in record {
+        denied = λ ds is. n.denied ds (first_is _ ds is);
+        granted = λ ds is. n.granted ds (first_is _ ds is);
+      };
+      reject = λ d line held. let n = r.reject d line held in record {
+        denied = λ ds is. n.denied ds (first_is _ ds is);
+        granted = λ ds is. n.granted ds (first_is _ ds is);
+      };
+      takes = r.takes;
     };
     all_offered = λ later rejects before d ds q lines held is. l.all_offered later rejects before d ds q lines held (first_is _ ds is);
-    takes = l.takes;
   }
 
 pub rules_book_is_lawful : RulesBookIsLawful

@@ -9,7 +9,7 @@ use Rattle.plain.specs.declared.Line.{Line}
 use Rattle.plain.specs.declared.Line.TheVariants.{Next, Reject}
 use Rattle.plain.specs.Book.{World, Plain, opened, turn, turn_with, answers}
 use Rattle.plain.specs.Transcript.{Entry, Deed, Following, Taking, Nothing, given, deed, deed_of, latest_first, place_told, place_of_next, place_with, offered, offered_with, in_hand, hand_with}
-use Rattle.plain.specs.Lawful.{MayTake, HoldsAfter, NextIsRight, RejectIsRight, Lawful}
+use Rattle.plain.specs.Lawful.{MayTake, HoldsAfter, NextIsRight, RejectIsRight, EntryIsRight, Lawful}
 use Rattle.plain.specs.Theorems.{IsListedRight, transcript, BookIsLawful, NeverPastEnd}
 use Rattle.plain.proofs.Told.{entry, book_by, one_told, all_told}
 use Rattle.plain.proofs.Right.{Given, Right, Keeps, right_holds, turn_keeps, next_right, reject_right, opened_right}
@@ -31,66 +31,40 @@ module _ (w : World) (lists : IsListedRight w.listing) (supplied : List ℕ) (sl
   abbrev Holds : List Entry → Type 0
   Holds = HoldsAfter (Given w lists supplied slack) supplied
 
-  abbrev May : List Entry → ℕ → Type 0
-  May es n = MayTake (place_told supplied es).rest n
+  abbrev IsEntry : Entry → List Entry → Type 0
+  IsEntry = EntryIsRight (Given w lists supplied slack) supplied
 
   -- the laws of a transcript, but for the one that follows from them
   record Moments (transcript : List Entry) : Type 0 where
     holds : (later before : List Entry) → transcript ≡ later ++ before → Holds before
-    nexts : (later before : List Entry) (e : Entry) → transcript ≡ later ++ (e ∷ before) → e.line ≡ Next → in_hand before ≡ None → IsNext e before
-    rejects :
-        (later before : List Entry) (e : Entry) (d : Reading) → transcript ≡ later ++ (e ∷ before) →
-        e.line ≡ Reject → in_hand before ≡ Some d → IsRight e before
-    takes : (later before : List Entry) (e : Entry) (n : ℕ) → transcript ≡ later ++ (e ∷ before) → deed e ≡ Taking n → May before n
+    right : (later before : List Entry) (e : Entry) → transcript ≡ later ++ (e ∷ before) → IsEntry e before
 
   -- one entry more
-  module _ (es : List Entry) (e : Entry) (m : Moments es) (now : Holds (e ∷ es)) (first : e.line ≡ Next → in_hand es ≡ None → IsNext e es) (right : (d : Reading) → e.line ≡ Reject → in_hand es ≡ Some d → IsRight e es) (may : (n : ℕ) → deed e ≡ Taking n → May es n) where
+  module _ (es : List Entry) (e : Entry) (m : Moments es) (now : Holds (e ∷ es)) (is : IsEntry e es) where
     holds_more : (later before : List Entry) → e ∷ es ≡ later ++ before → Holds before
     holds_more [] before q = subst Holds q now
     holds_more (x ∷ later) before q = m.holds later before (cc)
 
-    nexts_more : (later before : List Entry) (f : Entry) → e ∷ es ≡ later ++ (f ∷ before) → f.line ≡ Next → in_hand before ≡ None → IsNext f before
-    nexts_more [] before f q line held =
-        let same : e ≡ f = cc in
-        let others : es ≡ before = cc in
-        subst (λ (x : Entry). IsNext x before) same (subst (IsNext e) others (first (cc) (cc)))
-    nexts_more (x ∷ later) before f q line held = m.nexts later before f (cc) line held
-
-    rejects_more : (later before : List Entry) (f : Entry) (d : Reading) → e ∷ es ≡ later ++ (f ∷ before) → f.line ≡ Reject → in_hand before ≡ Some d → IsRight f before
-    rejects_more [] before f d q line held =
+    right_more : (later before : List Entry) (f : Entry) → e ∷ es ≡ later ++ (f ∷ before) → IsEntry f before
+    right_more [] before f q =
         let first : e ≡ f = cc in
         let others : es ≡ before = cc in
-        subst (λ (x : Entry). IsRight x before) first (subst (IsRight e) others (right d (cc) (cc)))
-    rejects_more (x ∷ later) before f d q line held = m.rejects later before f d (cc) line held
-
-    takes_more : (later before : List Entry) (f : Entry) (n : ℕ) → e ∷ es ≡ later ++ (f ∷ before) → deed f ≡ Taking n → May before n
-    takes_more [] before f n q did =
-        let first : e ≡ f = cc in
-        let others : es ≡ before = cc in
-        subst (λ (xs : List Entry). May xs n) others (may n (ap deed first ∙ did))
-    takes_more (x ∷ later) before f n q did = m.takes later before f n (cc) did
+        subst (λ (x : Entry). IsEntry x before) first (subst (IsEntry e) others is)
+    right_more (x ∷ later) before f q = m.right later before f (cc)
 
     moments_more : Moments (e ∷ es)
-    moments_more = record { holds = holds_more; nexts = nexts_more; rejects = rejects_more; takes = takes_more }
+    moments_more = record { holds = holds_more; right = right_more }
 
   moments_none : Moments []
-  moments_none = record { holds = none_holds; nexts = none_nexts; rejects = none_rejects; takes = none_takes }
+  moments_none = record { holds = none_holds; right = none_right }
     where
       none_holds : (later before : List Entry) → [] ≡ later ++ before → Holds before
       none_holds [] before q = subst Holds q (right_holds w lists supplied slack [] (opened_right w lists supplied slack))
       none_holds (x ∷ later) before q = absurd (cc)
 
-      none_nexts : (later before : List Entry) (f : Entry) → [] ≡ later ++ (f ∷ before) → f.line ≡ Next → in_hand before ≡ None → IsNext f before
-      none_nexts [] before f q line held = absurd (cc)
-      none_nexts (x ∷ later) before f q line held = absurd (cc)
-
-      none_rejects : (later before : List Entry) (f : Entry) (d : Reading) → [] ≡ later ++ (f ∷ before) → f.line ≡ Reject → in_hand before ≡ Some d → IsRight f before
-      none_rejects [] before f d q line held = absurd (cc)
-      none_rejects (x ∷ later) before f d q line held = absurd (cc)
-
-      none_takes : (later before : List Entry) (f : Entry) (n : ℕ) → [] ≡ later ++ (f ∷ before) → deed f ≡ Taking n → May before n
-      none_takes [] before f n q did = absurd (cc)
-      none_takes (x ∷ later) before f n q did = absurd (cc)
+      none_right : (later before : List Entry) (f : Entry) → [] ≡ later ++ (f ∷ before) → IsEntry f before
+      none_right [] before f q = absurd (cc)
+      none_right (x ∷ later) before f q = absurd (cc)
 
   -- one line more, with the book that the entries tell
   module _ (b : Plain) (es : List Entry) (told : b ≡ book_by w supplied slack es) (k : Right w lists supplied slack es) (line : Line) where
@@ -121,7 +95,9 @@ module _ (w : World) (lists : IsListedRight w.listing) (supplied : List ℕ) (sl
         subst (λ (x : Line). IsRight (entry x (turn w b x)) es) (sym l) at_book
 
     more : Moments es → Moments (next ∷ es)
-    more m = moments_more es next m (right_holds w lists supplied slack (next ∷ es) keeps.right) next_is_right reject_is_right keeps.takes
+    more m =
+        moments_more es next m (right_holds w lists supplied slack (next ∷ es) keeps.right)
+        (record { next = next_is_right; reject = reject_is_right; takes = keeps.takes })
 
   pub run_right : (b : Plain) (es : List Entry) (lines : List Line) → b ≡ book_by w supplied slack es → Right w lists supplied slack es → Right w lists supplied slack (latest_first lines (answers w b lines) es)
   run_right b es [] told k = k
@@ -152,7 +128,7 @@ module _ (w : World) (lists : IsListedRight w.listing) (supplied : List ℕ) (sl
       there = is ∙ ap w.listing (sym g.still)
 
       right : IsRight e now
-      right = m.rejects later now e g.last q line g.hand
+      right = (m.right later now e q).reject g.last line g.hand
 
       at_end : length listing ≤ count → Going (e ∷ rejects)
       at_end past =
@@ -196,10 +172,8 @@ module _ (w : World) (lists : IsListedRight w.listing) (supplied : List ℕ) (sl
   lawful : (all : List Entry) → Moments all → Lawful (Given w lists supplied slack) supplied all
   lawful all m = record {
     holds = m.holds;
-    nexts = m.nexts;
-    rejects = m.rejects;
+    right = m.right;
     all_offered = λ later rejects before d listing q lines held is. (going all m before d listing held is later rejects q lines).so_far;
-    takes = m.takes;
   }
 
 pub book_is_lawful : BookIsLawful

@@ -47,26 +47,26 @@ module _ (IsListingAt : Place → List Reading → Type 0) (supplied : List ℕ)
         (listing : List Reading) → IsListingAt (place_of_next supplied before) listing →
         offered before ≢ listing → entry.answer.number ≡ 0
 
-  -- of a transcript, at each of its moments
+  -- an entry, behind those before it
+  pub record EntryIsRight (entry : Entry) (before : List Entry) : Type 0 where
+    pub next : entry.line ≡ Next → in_hand before ≡ None → NextIsRight entry before
+    pub reject :
+        (reading : Reading) → entry.line ≡ Reject → in_hand before ≡ Some reading →
+        RejectIsRight entry before
+    -- an accept, keep or extend that is granted takes bytes that are there
+    pub takes :
+        (n : ℕ) → deed entry ≡ Taking n → MayTake (place_told supplied before).rest n
+
+  -- a transcript, at each of its moments and each of its entries
   pub record Lawful (transcript : List Entry) : Type 0 where
-    pub holds : (later before : List Entry) → transcript ≡ later ++ before → HoldsAfter before
-    -- each next with nothing in hand is right, and each reject with a reading in hand
-    pub nexts :
+    pub holds :
+        (later before : List Entry) → transcript ≡ later ++ before → HoldsAfter before
+    pub right :
         (later before : List Entry) (entry : Entry) →
-        transcript ≡ later ++ (entry ∷ before) → entry.line ≡ Next →
-        in_hand before ≡ None → NextIsRight entry before
-    pub rejects :
-        (later before : List Entry) (entry : Entry) (reading : Reading) →
-        transcript ≡ later ++ (entry ∷ before) → entry.line ≡ Reject →
-        in_hand before ≡ Some reading → RejectIsRight entry before
+        transcript ≡ later ++ (entry ∷ before) → EntryIsRight entry before
     -- if one goes on rejecting, each reject offers one reading more, until all are offered
     pub all_offered :
         (later rejects before : List Entry) (reading : Reading) (listing : List Reading) →
         transcript ≡ later ++ (rejects ++ before) → All (λ entry. entry.line ≡ Reject) rejects →
         in_hand before ≡ Some reading → IsListingAt (place_of_next supplied before) listing →
         offered (rejects ++ before) ≡ take (length (offered before) + length rejects) listing
-    -- each accept, keep and extend that is granted takes bytes that are there
-    pub takes :
-        (later before : List Entry) (entry : Entry) (n : ℕ) →
-        transcript ≡ later ++ (entry ∷ before) → deed entry ≡ Taking n →
-        MayTake (place_told supplied before).rest n
