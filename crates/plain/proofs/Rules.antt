@@ -1,5 +1,5 @@
 -- Books that list by the rules of a file.
-use Rattle.std.proofs.Common.{◌≡◌, ℕ, zero, suc, ◌+◌, ◌-◌, ◌<◌, ◌≤◌, Bool, true, false, ◌&&◌, List, [], ◌∷◌, length, take, slice_index_or, if◌then◌else◌, nat_lt, nat_le, Some, None, Option, refl, sym, ap, subst, ◌∙◌, arith, length-take-le}
+use Rattle.std.proofs.Common.{◌≡◌, ℕ, zero, suc, ◌+◌, ◌-◌, ◌<◌, ◌≤◌, ◌&&◌, List, [], ◌∷◌, length, take, slice_index_or, nat_lt, nat_le, Some, None, Option, refl, sym, ap, subst, ◌∙◌, arith, length-take-le}
 use Rattle.std.specs.List.{All}
 use Rattle.std.proofs.lemmas.List.Elements.{All-append, All-cons, All-head, All-tail, All-drop}
 use Rattle.patterns.specs.Expression.{Expression}
@@ -16,6 +16,7 @@ use Rattle.plain.specs.Book.{World, Plain, Turn, opened, denied, offers, takes, 
 use Rattle.plain.specs.Transcript.{Entry, latest_first}
 use Rattle.plain.specs.Lawful.{MayTake, Lawful}
 use Rattle.plain.specs.Theorems.{IsListedRight, PutsBytes, transcript, RulesBookIsLawful, OneBook, RulesListRight}
+use Rattle.plain.proofs.Told.{by_test}
 use Rattle.plain.proofs.Whole.{book_is_lawful}
 
 -- a reading of a rule, from 1 on, with a head that may be taken
@@ -90,36 +91,35 @@ module _ (conditions capacity : ℕ) (listing other : Place → List Reading) (s
     same_turn_with (Some d) line = same_holding d line
 
     -- and what is left is made of bytes
-    by_test : (test : Bool) (s t : Turn) → Bytes s.book.place.rest → Bytes t.book.place.rest → Bytes (if test then s else t).book.place.rest
-    by_test true s t first later = first
-    by_test false s t first later = later
+    abbrev Leaves : Turn → Type 0
+    Leaves t = Bytes t.book.place.rest
 
-    offered_bytes : (n : ℕ) (earlier : List Reading) (o : Option Reading) → Bytes (offers n earlier o b).book.place.rest
+    offered_bytes : (n : ℕ) (earlier : List Reading) (o : Option Reading) → Leaves (offers n earlier o b)
     offered_bytes n earlier None = bytes
     offered_bytes n earlier (Some d) = bytes
 
-    taken_bytes : (n kept : ℕ) → Bytes (takes one n kept b).book.place.rest
+    taken_bytes : (n kept : ℕ) → Leaves (takes one n kept b)
     taken_bytes n kept = All-drop (λ x. x < 256) n b.place.rest bytes
 
-    idle_bytes : (line : Line) → PutsBytes line → Bytes (idle one b line).book.place.rest
+    idle_bytes : (line : Line) → PutsBytes line → Leaves (idle one b line)
     idle_bytes Next puts = offered_bytes 21 [] (first_of (listing b.place))
     idle_bytes Reject puts = bytes
     idle_bytes Accept puts = bytes
     idle_bytes (Keep n) puts = bytes
     idle_bytes Extend puts = bytes
-    idle_bytes (Begin c) puts = by_test (nat_lt c conditions) (begins c b) (denied 25 b) bytes bytes
-    idle_bytes (PutBack x) puts = by_test (nat_lt 0 b.slack) (puts_back x b) (denied 12 b) (All-cons (λ y. y < 256) x b.place.rest puts bytes) bytes
+    idle_bytes (Begin c) puts = by_test Leaves (nat_lt c conditions) (begins c b) (denied 25 b) (λ e. bytes) bytes
+    idle_bytes (PutBack x) puts = by_test Leaves (nat_lt 0 b.slack) (puts_back x b) (denied 12 b) (λ e. All-cons (λ y. y < 256) x b.place.rest puts bytes) bytes
 
-    holding_bytes : (d : Reading) (line : Line) → Bytes (holding one b d line).book.place.rest
+    holding_bytes : (d : Reading) (line : Line) → Leaves (holding one b d line)
     holding_bytes d Next = bytes
     holding_bytes d Reject = offered_bytes 22 b.offered (next_of d.rule d.total (listing b.place))
     holding_bytes d Accept = taken_bytes d.head 0
-    holding_bytes d (Keep n) = by_test (nat_lt b.kept n && nat_le n (b.kept + d.head)) (takes one (n - b.kept) 0 b) (denied 23 b) (taken_bytes (n - b.kept) 0) bytes
-    holding_bytes d Extend = by_test (nat_le (b.kept + d.head) 3072) (takes one d.head (b.kept + d.head) b) (denied 24 b) (taken_bytes d.head (b.kept + d.head)) bytes
+    holding_bytes d (Keep n) = by_test Leaves (nat_lt b.kept n && nat_le n (b.kept + d.head)) (takes one (n - b.kept) 0 b) (denied 23 b) (λ e. taken_bytes (n - b.kept) 0) bytes
+    holding_bytes d Extend = by_test Leaves (nat_le (b.kept + d.head) 3072) (takes one d.head (b.kept + d.head) b) (denied 24 b) (λ e. taken_bytes d.head (b.kept + d.head)) bytes
     holding_bytes d (Begin c) = bytes
     holding_bytes d (PutBack x) = bytes
 
-    turn_bytes : (o : Option Reading) (line : Line) → PutsBytes line → Bytes (turn_with o one b line).book.place.rest
+    turn_bytes : (o : Option Reading) (line : Line) → PutsBytes line → Leaves (turn_with o one b line)
     turn_bytes None line puts = idle_bytes line puts
     turn_bytes (Some d) line puts = holding_bytes d line
 

@@ -8,7 +8,7 @@ use Rattle.places.specs.declared.Reading.{Reading}
 use Rattle.plain.specs.declared.Line.{Line}
 use Rattle.plain.specs.declared.Line.TheVariants.{Next, Reject}
 use Rattle.plain.specs.Book.{World, Plain, opened, turn, turn_with, answers}
-use Rattle.plain.specs.Transcript.{Entry, Deed, Following, Taking, Nothing, given, deed, deed_of, latest_first, place_told, place_of_next, place_with, offered, offered_with, in_hand, hand_with}
+use Rattle.plain.specs.Transcript.{Entry, Deed, Following, Nothing, given, deed, deed_of, latest_first, place_told, place_of_next, place_with, offered, offered_with, in_hand, hand_with}
 use Rattle.plain.specs.Lawful.{MayTake, HoldsAfter, NextIsRight, RejectIsRight, EntryIsRight, Lawful}
 use Rattle.plain.specs.Theorems.{IsListedRight, transcript, BookIsLawful, NeverPastEnd}
 use Rattle.plain.proofs.Told.{entry, book_by, one_told, all_told}
