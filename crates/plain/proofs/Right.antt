@@ -1,5 +1,5 @@
 -- What is so of a transcript after each line, and that one line more keeps it.
-use Rattle.std.proofs.Common.{◌≡◌, ◌≢◌, ℕ, suc, ◌+◌, ◌-◌, ◌≤◌, Bool, true, false, ◌&&◌, List, [], ◌∷◌, ◌++◌, length, take, drop, if◌then◌else◌, nat_lt, nat_le, Some, None, Option, refl, sym, ap, subst, ◌∙◌, append_assoc, arith, length-drop}
+use Rattle.std.proofs.Common.{◌≡◌, ◌≢◌, ℕ, suc, ◌+◌, ◌-◌, ◌≤◌, ◌&&◌, List, [], ◌∷◌, ◌++◌, length, take, drop, nat_lt, nat_le, Some, None, Option, refl, sym, ap, subst, ◌∙◌, append_assoc, arith, length-drop}
 use Rattle.std.specs.List.{All, AllPairs}
 use Rattle.std.proofs.lemmas.Bool.{and_parts, leb-true, ltb-true}
 use Rattle.std.proofs.lemmas.List.{append-nil, drop-drop}
@@ -10,12 +10,12 @@ use Rattle.places.specs.Order.{first_of, next_of}
 use Rattle.places.proofs.Following.{Follows, found_behind}
 use Rattle.plain.specs.declared.Line.{Line}
 use Rattle.plain.specs.declared.Line.TheVariants.{Next, Reject, Accept, Keep, Extend, Begin, PutBack}
-use Rattle.plain.specs.Book.{World, Plain, Turn, opened, denied, offers, takes, begins, puts_back, idle, holding, turn_with, turn, after, answers}
+use Rattle.plain.specs.Book.{World, Plain, Turn, denied, offers, takes, begins, puts_back, idle, holding, turn_with}
 use Rattle.plain.specs.Transcript.{Entry, deed, Taking, place_told, place_of_next, offered, in_hand, taken, put_back, kept_told}
-use Rattle.plain.specs.Lawful.{MayTake, HoldsAfter, RejectIsRight}
+use Rattle.plain.specs.Lawful.{MayTake, HoldsAfter, NextIsRight, RejectIsRight}
 use Rattle.plain.specs.Theorems.{IsListedRight}
 use Rattle.plain.proofs.Lists.{first_is, none_is, all_at, first_part, parted, no_two}
-use Rattle.plain.proofs.Told.{entry, book_by}
+use Rattle.plain.proofs.Told.{by_test, entry, book_by}
 
 module _ (w : World) (lists : IsListedRight w.listing) (supplied : List ℕ) (slack : ℕ) where
   -- of a reading in hand: it is the last offered, the place is that of the last next, and its head may be taken
@@ -85,6 +85,16 @@ module _ (w : World) (lists : IsListedRight w.listing) (supplied : List ℕ) (sl
           takes = λ n e. absurd (cc);
         }
 
+    next_by : (o : Option Reading) → first_of (w.listing place) ≡ o → NextIsRight Given supplied (entry Next (offers 21 [] o book)) es
+    next_by None e = record { denied = λ listing same none. refl; granted = λ listing same some. absurd (some (same ∙ none_is (w.listing place) e)) }
+    next_by (Some d) e = record {
+      denied = λ listing same none. let nothing : None ≡ Some d = ap first_of (sym none ∙ same) ∙ e in absurd (cc);
+      granted = λ listing same some. refl;
+    }
+
+    pub next_right : NextIsRight Given supplied (entry Next (idle w book Next)) es
+    next_right = next_by (first_of (w.listing place)) refl
+
     -- bytes are taken
     took : (e : Entry) (n : ℕ) → deed e ≡ Taking n → MayTake place.rest n → kept_told (e ∷ es) ≤ 3072 → Keeps e
     took e n q may few = record {
@@ -98,10 +108,8 @@ module _ (w : World) (lists : IsListedRight w.listing) (supplied : List ℕ) (sl
       takes = λ m s. subst (MayTake place.rest) (cc) may;
     }
 
-    -- what a test decides
-    by_test : (line : Line) (test : Bool) (s t : Turn) → (test ≡ true → Keeps (entry line s)) → Keeps (entry line t) → Keeps (entry line (if test then s else t))
-    by_test line true s t kept other = kept refl
-    by_test line false s t kept other = other
+    abbrev KeepsBy : Line → Turn → Type 0
+    KeepsBy line t = Keeps (entry line t)
 
     idle_keeps : in_hand es ≡ None → (line : Line) → Keeps (entry line (idle w book line))
     idle_keeps h Next = next_keeps (first_of (w.listing place)) refl
@@ -110,14 +118,14 @@ module _ (w : World) (lists : IsListedRight w.listing) (supplied : List ℕ) (sl
     idle_keeps h (Keep n) = denied_keeps (Keep n) 30
     idle_keeps h Extend = denied_keeps Extend 30
     idle_keeps h (Begin c) =
-        by_test (Begin c) (nat_lt c w.conditions) (begins c book) (denied 25 book)
+        by_test (KeepsBy (Begin c)) (nat_lt c w.conditions) (begins c book) (denied 25 book)
         (λ t. record {
           right = record { in_order = k.in_order; balance = k.balance; remains = k.remains; few = k.few; hand = λ d e. absurd (cc) };
           takes = λ n e. absurd (cc);
         })
         (denied_keeps (Begin c) 24)
     idle_keeps h (PutBack x) =
-        by_test (PutBack x) (nat_lt 0 book.slack) (puts_back x book) (denied 12 book)
+        by_test (KeepsBy (PutBack x)) (nat_lt 0 book.slack) (puts_back x book) (denied 12 book)
         (λ t. record {
           right = record { in_order = k.in_order; balance = omega (arith, k.balance); remains = λ none. absurd (omega arith); few = k.few; hand = λ d e. absurd (cc) };
           takes = λ n e. absurd (cc);
@@ -163,16 +171,16 @@ module _ (w : World) (lists : IsListedRight w.listing) (supplied : List ℕ) (sl
       holding_keeps Reject = reject_keeps _ (sym following)
       holding_keeps Accept = took _ d.head refl h.may (omega arith)
       holding_keeps (Keep n) =
-          by_test (Keep n) (nat_lt book.kept n && nat_le n (book.kept + d.head)) (takes w (n - book.kept) 0 book) (denied 23 book)
+          by_test (KeepsBy (Keep n)) (nat_lt book.kept n && nat_le n (book.kept + d.head)) (takes w (n - book.kept) 0 book) (denied 23 book)
           (λ t.
-              let both = and_parts (nat_lt book.kept n) (nat_le n (book.kept + d.head)) t in
-              let least = ltb-true book.kept n both.0 in
-              let most = leb-true n (book.kept + d.head) both.1 in
-              let may : MayTake place.rest (n - book.kept) = record { some = omega arith; most = omega (arith, h.may.most); within = omega (arith, h.may.within) } in
-              took _ (n - book.kept) refl may (omega arith))
+          let both = and_parts (nat_lt book.kept n) (nat_le n (book.kept + d.head)) t in
+          let least = ltb-true book.kept n both.0 in
+          let most = leb-true n (book.kept + d.head) both.1 in
+          let may : MayTake place.rest (n - book.kept) = record { some = omega arith; most = omega (arith, h.may.most); within = omega (arith, h.may.within) } in
+          took _ (n - book.kept) refl may (omega arith))
           (denied_keeps (Keep n) 22)
       holding_keeps Extend =
-          by_test Extend (nat_le (book.kept + d.head) 3072) (takes w d.head (book.kept + d.head) book) (denied 24 book)
+          by_test (KeepsBy Extend) (nat_le (book.kept + d.head) 3072) (takes w d.head (book.kept + d.head) book) (denied 24 book)
           (λ t. took _ d.head refl h.may (leb-true (book.kept + d.head) 3072 t))
           (denied_keeps Extend 23)
       holding_keeps (Begin c) = denied_keeps (Begin c) 31

@@ -1,5 +1,5 @@
 -- Lines and answers tell all that the plain book knows, and what stands in the strip.
-use Rattle.std.proofs.Common.{◌≡◌, ℕ, suc, ◌+◌, ◌-◌, Bool, true, false, ◌&&◌, List, [], ◌∷◌, if◌then◌else◌, nat_lt, nat_le, Some, None, Option, refl, sym, ap, subst, ◌∙◌, arith}
+use Rattle.std.proofs.Common.{◌≡◌, ℕ, suc, ◌+◌, ◌-◌, Bool, true, false, ◌&&◌, List, [], ◌∷◌, if◌then◌else◌, nat_lt, nat_le, Some, None, Option, refl, sym, ap, subst, arith}
 use lib.Seq.{paste}
 use Rattle.places.specs.declared.Reading.{Reading}
 use Rattle.places.specs.Order.{first_of, next_of}
@@ -13,9 +13,9 @@ use Rattle.plain.specs.Theorems.{book_told, BookIsTold, StripIsTold}
 abbrev pub entry : Line → Turn → Entry
 entry line t = record { line = line; answer = t.answer }
 
--- whatever a test says
-by_test : (P : Turn → Type 0) (test : Bool) (s t : Turn) → P s → P t → P (if test then s else t)
-by_test P true s t first other = first
+-- what a test decides
+pub by_test : (P : Turn → Type 0) (test : Bool) (s t : Turn) → (test ≡ true → P s) → P t → P (if test then s else t)
+by_test P true s t first other = first refl
 by_test P false s t first other = other
 
 module _ (w : World) (supplied : List ℕ) (slack : ℕ) where
@@ -45,8 +45,8 @@ module _ (w : World) (supplied : List ℕ) (slack : ℕ) where
     idle_tells Accept = refl
     idle_tells (Keep n) = refl
     idle_tells Extend = refl
-    idle_tells (Begin c) = by_test (Tells (Begin c)) (nat_lt c w.conditions) (begins c (book_by es)) (denied 25 (book_by es)) refl refl
-    idle_tells (PutBack b) = by_test (Tells (PutBack b)) (nat_lt 0 (book_by es).slack) (puts_back b (book_by es)) (denied 12 (book_by es)) refl refl
+    idle_tells (Begin c) = by_test (Tells (Begin c)) (nat_lt c w.conditions) (begins c (book_by es)) (denied 25 (book_by es)) (λ e. refl) refl
+    idle_tells (PutBack b) = by_test (Tells (PutBack b)) (nat_lt 0 (book_by es).slack) (puts_back b (book_by es)) (denied 12 (book_by es)) (λ e. refl) refl
 
     holding_tells : (d : Reading) (line : Line) → Tells line (holding w (book_by es) d line)
     holding_tells d Next = refl
@@ -54,10 +54,10 @@ module _ (w : World) (supplied : List ℕ) (slack : ℕ) where
     holding_tells d Accept = refl
     holding_tells d (Keep n) =
         let b = book_by es in
-        by_test (Tells (Keep n)) (nat_lt b.kept n && nat_le n (b.kept + d.head)) (takes w (n - b.kept) 0 b) (denied 23 b) refl refl
+        by_test (Tells (Keep n)) (nat_lt b.kept n && nat_le n (b.kept + d.head)) (takes w (n - b.kept) 0 b) (denied 23 b) (λ e. refl) refl
     holding_tells d Extend =
         let b = book_by es in
-        by_test (Tells Extend) (nat_le (b.kept + d.head) 3072) (takes w d.head (b.kept + d.head) b) (denied 24 b) refl refl
+        by_test (Tells Extend) (nat_le (b.kept + d.head) 3072) (takes w d.head (b.kept + d.head) b) (denied 24 b) (λ e. refl) refl
     holding_tells d (Begin c) = refl
     holding_tells d (PutBack b) = refl
 
@@ -97,8 +97,8 @@ module _ (w : World) (supplied : List ℕ) (slack : ℕ) where
     idle_copies Accept = λ strip. refl
     idle_copies (Keep n) = λ strip. refl
     idle_copies Extend = λ strip. refl
-    idle_copies (Begin c) = by_test (Copies (Begin c)) (nat_lt c w.conditions) (begins c (book_by es)) (denied 25 (book_by es)) (λ strip. refl) (λ strip. refl)
-    idle_copies (PutBack b) = by_test (Copies (PutBack b)) (nat_lt 0 (book_by es).slack) (puts_back b (book_by es)) (denied 12 (book_by es)) (λ strip. refl) (λ strip. refl)
+    idle_copies (Begin c) = by_test (Copies (Begin c)) (nat_lt c w.conditions) (begins c (book_by es)) (denied 25 (book_by es)) (λ e strip. refl) (λ strip. refl)
+    idle_copies (PutBack b) = by_test (Copies (PutBack b)) (nat_lt 0 (book_by es).slack) (puts_back b (book_by es)) (denied 12 (book_by es)) (λ e strip. refl) (λ strip. refl)
 
     holding_copies : (d : Reading) (line : Line) → Copies line (holding w (book_by es) d line)
     holding_copies d Next = λ strip. refl
@@ -106,10 +106,10 @@ module _ (w : World) (supplied : List ℕ) (slack : ℕ) where
     holding_copies d Accept = λ strip. refl
     holding_copies d (Keep n) =
         let b = book_by es in
-        by_test (Copies (Keep n)) (nat_lt b.kept n && nat_le n (b.kept + d.head)) (takes w (n - b.kept) 0 b) (denied 23 b) (λ strip. refl) (λ strip. refl)
+        by_test (Copies (Keep n)) (nat_lt b.kept n && nat_le n (b.kept + d.head)) (takes w (n - b.kept) 0 b) (denied 23 b) (λ e strip. refl) (λ strip. refl)
     holding_copies d Extend =
         let b = book_by es in
-        by_test (Copies Extend) (nat_le (b.kept + d.head) 3072) (takes w d.head (b.kept + d.head) b) (denied 24 b) (λ strip. refl) (λ strip. refl)
+        by_test (Copies Extend) (nat_le (b.kept + d.head) 3072) (takes w d.head (b.kept + d.head) b) (denied 24 b) (λ e strip. refl) (λ strip. refl)
     holding_copies d (Begin c) = λ strip. refl
     holding_copies d (PutBack b) = λ strip. refl
 

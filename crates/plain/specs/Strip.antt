@@ -2,7 +2,6 @@
 -- from the kept bytes on, and no other byte.
 use Rattle.std.specs.Prelude.{ℕ, ◌-◌, List, [], ◌∷◌}
 use lib.Seq.{paste}
-use Rattle.places.specs.declared.Reading.{Reading}
 use Rattle.plain.specs.declared.Line.{Line}
 use Rattle.plain.specs.Book.{World, Plain, turn}
 use Rattle.plain.specs.Transcript.{Entry, Deed, First, Following, deed, place_told}
