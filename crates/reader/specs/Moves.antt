@@ -6,6 +6,7 @@ use Rattle.source.specs.Moves.{GoesBy, PutsBack}
 use Rattle.places.specs.declared.Reading.{Reading}
 use Rattle.places.specs.Listing.{Place}
 use Rattle.places.specs.Order.{first_of, next_of}
+use Rattle.plain.specs.Lawful.{MayTake}
 use Rattle.reader.specs.declared.fault.ScanFault.{ScanFault}
 use Rattle.reader.specs.declared.state.Idle.{Idle}
 use Rattle.reader.specs.declared.state.Holding.{Holding}
@@ -25,14 +26,15 @@ holding_at holding rest =
 abbrev pub GivesBack : {T : Type 0} → Option ScanFault → T → Refused T → Type 0
 GivesBack why state refused = (why ≡ Some refused.fault) × (refused.state ≡ state)
 
--- the reading found is in hand, its head stands in the strip behind what is kept, and all else is
--- as it was
+-- the reading found is in hand, its head may be taken and stands in the strip behind what is kept,
+-- and all else is as it was
 pub record Offered (place : Place) (kept : ℕ) (found : Option Reading) (strip strip' : List ℕ)
     (holding : Holding) : Type 0 where
   pub condition : holding.condition ≡ place.condition
   pub line_start : holding.at_line_start ≡ place.at_line_start
   pub kept_stays : holding.kept ≡ kept
   pub reading : found ≡ Some holding.reading
+  pub may : MayTake place.rest holding.reading.head
   pub copied : strip' ≡ paste strip kept place.rest holding.reading.head
 
 abbrev pub Nexts :
