@@ -59,15 +59,17 @@ module _ (test : ℕ → Bool) where
     | inr ge ↦ bit_above (word test) 64 i word_few ge ∙ sym (ap (λ (b : Bool). b && test i) (le-ltb i 64 ge))
   ]
 
-  -- a number with these bits is that word
-  pub word_is : (w : ℕ) → ((i : ℕ) → bit w i ≡ test i) → ((i : ℕ) → 64 ≤ i → test i ≡ false) → w ≡ word test
-  word_is w bits past = same_word w (word test) (λ i. bits i ∙ sym (whole i))
-    where
-      whole : (i : ℕ) → bit (word test) i ≡ test i
-      whole i = elim (cases_lt i 64) [
-        | inl lt ↦ word_within i lt
-        | inr ge ↦ bit_above (word test) 64 i word_few ge ∙ sym (past i ge)
-      ]
+  -- where none past the last passes
+  module _ (past : (i : ℕ) → 64 ≤ i → test i ≡ false) where
+    pub word_members : (i : ℕ) → bit (word test) i ≡ test i
+    word_members i = elim (cases_lt i 64) [
+      | inl lt ↦ word_within i lt
+      | inr ge ↦ bit_above (word test) 64 i word_few ge ∙ sym (past i ge)
+    ]
+
+    -- a number with these bits is that word
+    pub word_is : (w : ℕ) → ((i : ℕ) → bit w i ≡ test i) → w ≡ word test
+    word_is w bits = same_word w (word test) (λ i. bits i ∙ sym (word_members i))
 
 -- ---- words
 module _ (n : ℕ) (test : ℕ → Bool) where

@@ -17,7 +17,7 @@ use Rattle.table.specs.Zeros.{zeros, no_rule}
 use Rattle.loader.specs.declared.progress.Progress.{Progress}
 use Rattle.loader.specs.declared.lines.TextLine.{TextLine}
 use Rattle.loader.specs.declared.lines.TextLines.{TextLines}
-use Rattle.loader.specs.Loaded.{RulesHold, trails_of}
+use Rattle.loader.specs.Held.{RulesHold, trails_of}
 use Rattle.loader.specs.Lines.{left, IsLine, Gives, divides_in}
 use Rattle.loader.specs.Sections.{FirstRead, SoFar, Added, Gone, FileRead}
 use Rattle.loader.proofs.Left.{divides_is}

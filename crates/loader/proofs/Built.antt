@@ -13,15 +13,15 @@ use Rattle.table.specs.declared.loaded.Rule.{Rule}
 use Rattle.table.specs.declared.loaded.StartRows.{StartRows}
 use Rattle.table.specs.declared.loaded.Loaded.{Loaded}
 use Rattle.table.specs.Zeros.{no_row, no_start, zeros}
-use Rattle.loader.specs.Loaded as rulefile
-use Rattle.loader.specs.Loaded.{RulesHold, trails_of}
+use Rattle.loader.specs.Held as rulefile
+use Rattle.loader.specs.Held.{RulesHold, trails_of, RowsHold}
 use Rattle.loader.specs.Laid.{RulesLaid}
 use Rattle.loader.proofs.HeldRules.{places}
 use Rattle.automaton.specs.Sets.{Set}
 use Rattle.automaton.specs.Numbering.{meet_all, starts, trails, grown, row_sets}
 use Rattle.automaton.proofs.Meeting.{Front, front_trans, front_length, meet_all_append, meet_all_front, grown_front}
 use Rattle.table.specs.Memory.{row_at, rule_at, start_at, MarkedIn}
-use Rattle.loader.specs.Load.{sets_of, filled, start_of, trail_of, RowsHold}
+use Rattle.loader.specs.Load.{sets_of, filled, start_of, trail_of}
 use Rattle.loader.specs.Machine.{Machine}
 use Rattle.loader.specs.Building.{OnlyStarts, StartsWritten, OnlyTrails, TrailsWritten, AllWritten, Read, Built}
 use Rattle.loader.proofs.MachineRules.{laid_in_front}

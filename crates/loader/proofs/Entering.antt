@@ -1,18 +1,18 @@
 -- The entries of a row, byte after byte.
-use Rattle.std.proofs.Common.{◌≡◌, ℕ, ◌+◌, ◌-◌, ◌<◌, ◌≤◌, true, false, ◌&&◌, ◌≢◌, List, [], ◌∷◌, ◌++◌, length, get_or, set, sym, refl, ap, ◌∙◌, subst, inl, inr, zero-add, arith, get_or-set_other, get_or-set_same}
+use Rattle.std.proofs.Common.{◌≡◌, ℕ, ◌+◌, ◌-◌, ◌<◌, ◌≤◌, false, ◌&&◌, ◌≢◌, List, [], ◌∷◌, ◌++◌, length, get_or, set, sym, refl, ap, ◌∙◌, subst, inl, inr, zero-add, arith, get_or-set_other, get_or-set_same}
 use mathlib.Core.Path.{fun_ext}
-use Rattle.std.proofs.lemmas.Bool.{cases_eq, or_left}
+use Rattle.std.proofs.lemmas.Bool.{cases_eq}
 use Rattle.positions.specs.Memory.{Work, member}
 use Rattle.grammar.specs.File.{RuleText}
-use Rattle.automaton.specs.Sets.{Set, empty}
+use Rattle.automaton.specs.Sets.{Set}
 use Rattle.automaton.specs.Automaton.{leads}
-use Rattle.automaton.specs.Numbering.{stored, number, meet, meet_all, leads_from}
+use Rattle.automaton.specs.Numbering.{number, meet, meet_all, leads_from}
 use Rattle.automaton.specs.Theorems.{Known}
-use Rattle.automaton.proofs.Members.{some_false, empty_from}
-use Rattle.automaton.proofs.Meeting.{Front, front_length, front_known, number_append, number_empty, meet_front, meet_all_append, meet_all_front, leads_from_append}
+use Rattle.automaton.proofs.Meeting.{Front, front_length, front_known, number_append, meet_old, meet_front, meet_all_append, meet_all_front, leads_from_append}
 use Rattle.loader.specs.declared.Lead.{Lead}
 use Rattle.loader.specs.Machine.{members, behind_of, leads_in, Machine}
 use Rattle.loader.specs.Building.{rows_of, Stored, Led, LeadsOn, Entered}
+use Rattle.loader.proofs.Leading.{led_nowhere}
 
 -- a number that is known stays as rows are added
 pub front_number : (rs us : List Set) → Front rs us → (s : Set) → Known rs s → number us s ≡ number rs s
@@ -47,20 +47,12 @@ pub record Entering (m : Work) (rs : List Set) (s : Set) (w : Work) (l : Lead) (
   pub led : Led m (rows_of w l.count) l
   pub entered : (qs : List RuleText) (n : ℕ) → Machine m n qs → Entered qs rs s b (rows_of w l.count) next
 
-nowhere_empty : (m : Work) (live : Set) → ((p : ℕ) → live p ≡ false) → empty (behind_of m live) ≡ true
-unfolding behind_of
-nowhere_empty m live h = empty_from (behind_of m live) (λ t lt. some_false 512 (λ p. live p && member m (512 + p) t) (λ p small. rw (h p)))
-
 pub entering_start : (m : Work) (s : Set) (w : Work) (n : ℕ) (l : Lead) (next : List ℕ) → Stored w n → l.count ≡ n → l.number ≡ 0 → ((p : ℕ) → members l.live p ≡ false)
     → Entering m (rows_of w n) s w l next 0
 entering_start m s w n l next h count-is number-is none =
-    let e = nowhere_empty m (members l.live) none in
     record {
       stored = subst (Stored w) (sym count-is) h;
-      led = record {
-        known = or_left (empty (behind_of m (members l.live))) (stored (rows_of w l.count) (behind_of m (members l.live))) e;
-        number = number-is ∙ sym (number_empty (rows_of w l.count) (behind_of m (members l.live)) e);
-      };
+      led = led_nowhere m (rows_of w l.count) l number-is none;
       entered = λ qs k a. record {
         rows = ap (rows_of w) count-is ∙ sym (ap (meet_all (rows_of w n)) (leads_from_none qs s 0));
         entries = λ b lt. absurd (omega arith);
@@ -106,3 +98,35 @@ module _ (m : Work) (rs : List Set) (s : Set) (w : Work) (l : Lead) (next : List
 
   pub entering_more : (l' : Lead) → LeadsOn m (rows_of w l.count) s b w' l' → b < length next → Entering m rs s w' l' (set next b l'.number) (b + 1)
   entering_more l' h room = record { stored = h.stored; led = h.led; entered = λ qs n a. entered_more qs n a l' h room }
+
+-- a byte that leads where an earlier one does
+module _ (m : Work) (rs : List Set) (s : Set) (w : Work) (l : Lead) (next : List ℕ) (b : ℕ) (e : Entering m rs s w l next b) (small : b < 256) (room : b < length next)
+    (c : ℕ) (before : c < b) (takers : (p : ℕ) → member m (1280 + c) p ≡ member m (1280 + b) p)
+  where
+    leads_there : leads_in m s c ≡ leads_in m s b
+    leads_there = ap (behind_of m) (fun_ext (λ p. ap (λ x. s p && x) (takers p)))
+
+    module _ (qs : List RuleText) (n : ℕ) (a : Machine m n qs) where
+      same_leads : leads qs s c ≡ leads qs s b
+      same_leads = sym (a.leading s c (omega arith)) ∙ leads_there ∙ a.leading s b small
+
+      known : Known (rows_of w l.count) (leads qs s b)
+      known = subst (Known (rows_of w l.count)) same_leads ((e.entered qs n a).entries c before).1
+
+      copied : (d : ℕ) → d < b + 1 → (get_or (set next b (get_or next c 0)) d 0 ≡ number (rows_of w l.count) (leads qs s d)) × Known (rows_of w l.count) (leads qs s d)
+      copied d lt = elim (cases_eq d b) [
+        | inl same ↦
+            let at : get_or (set next b (get_or next c 0)) b 0 ≡ get_or next c 0 = get_or-set_same next b (get_or next c 0) 0 room in
+            subst (λ (i : ℕ). (get_or (set next b (get_or next c 0)) i 0 ≡ number (rows_of w l.count) (leads qs s i)) × Known (rows_of w l.count) (leads qs s i)) (sym same)
+            (at ∙ ((e.entered qs n a).entries c before).0 ∙ ap (number (rows_of w l.count)) same_leads, known)
+        | inr other ↦ let ne : d ≢ b = other in rw get_or-set_other ((e.entered qs n a).entries d (omega arith))
+      ]
+
+      entered_copied : Entered qs rs s (b + 1) (rows_of w l.count) (set next b (get_or next c 0))
+      entered_copied = record {
+        rows = sym (meet_old (rows_of w l.count) (leads qs s b) known) ∙ ap (λ (us : List Set). meet us (leads qs s b)) (e.entered qs n a).rows ∙ sym (met_last qs s rs b);
+        entries = copied;
+      }
+
+    pub entering_copied : Entering m rs s w l (set next b (get_or next c 0)) (b + 1)
+    entering_copied = record { stored = e.stored; led = e.led; entered = λ qs n a. entered_copied qs n a }

@@ -1,8 +1,8 @@
 -- A rule line, and the rules one behind another.
-use Rattle.std.proofs.Common.{◌≡◌, ℕ, zero, suc, ◌+◌, ◌<◌, ◌≤◌, Bool, cond, List, [], ◌∷◌, ◌++◌, length, replicate, set, Ok, sym, refl, ap, ◌∙◌, subst, arith}
+use Rattle.std.proofs.Common.{◌≡◌, ℕ, zero, suc, ◌+◌, ◌<◌, ◌≤◌, Bool, true, false, cond, ◌||◌, List, [], ◌∷◌, ◌++◌, length, replicate, set, Ok, sym, refl, ap, ◌∙◌, subst, arith}
 use Rattle.std.proofs.lemmas.List.{length-map, length-replicate}
 use Rattle.std.proofs.lemmas.Grind.{common_steps}
-use Rattle.bits.specs.Set.{has}
+use Rattle.bits.specs.Set.{has, Whole}
 use Rattle.bits.specs.declared.Bits.{Bits}
 use Rattle.positions.specs.Memory.{Work}
 use Rattle.grammar.specs.declared.Read.{Read}
@@ -19,7 +19,7 @@ use Rattle.table.specs.declared.loaded.Loaded.{Loaded}
 use Rattle.table.specs.declared.loaded.Rule.{Rule}
 use Rattle.loader.specs.Laid.{PatternLaid, RulesLaid, RulesKept}
 use Rattle.loader.specs.Marks.{PatternRead}
-use Rattle.loader.specs.Loaded.{RuleHolds, RulesHold, trails_of}
+use Rattle.loader.specs.Held.{RuleHolds, RulesHold, trails_of}
 use Rattle.loader.specs.Sections.{steps_behind, LineRead}
 
 abbrev pub started : List ℕ → ℕ → ℕ
@@ -31,6 +31,10 @@ body_is s c u a = grind (arith, common_steps)
 behind_is : (s : List ℕ) (c : Conditions) (a : Read (ℕ → Bool)) (b : Bool) (p : file.Pattern) → behind_pattern s c a b p ≡ then (steps_behind s c p.at) (rule_of a b p)
 behind_is s c a b p = grind (arith, common_steps)
 
+twice : (b : Bool) → (b || b) ≡ b
+twice true = refl
+twice false = refl
+
 -- a pattern and an action make a rule
 module _ (s : List ℕ) (c : Conditions) (u k : ℕ) (w w' : Work) (a : Read (Bits 1)) (p : Read ℕ) (q : PatternRead (pattern_at s (started s a.next) (u + 1)) u k w w' p) where
   -- as the pattern is read
@@ -41,9 +45,10 @@ module _ (s : List ℕ) (c : Conditions) (u k : ℕ) (w w' : Work) (a : Read (Bi
       ∙ behind_is s c (picked a) (stands s a.next 94) q.pattern
       ∙ ap (λ (n : ℕ). then (steps_behind s c n) (rule_of (picked a) (stands s a.next 94) q.pattern)) (sym q.at)
 
-  pub body_reads : (t : Steps) (b : Bool) → k < 64 → b ≡ stands s a.next 94 → Ok (taken t) ≡ steps_behind s c p.next
-      → LineRead (behind_active s c u (picked a)) u k w w' (record { rule = record { conditions = a.value; anchored = b; trail = 0; steps = t.list }; used = p.value })
-  body_reads t b few b-is e =
+  pub body_reads : (t : Steps) (b : Bool) (v : Bits 1) → k < 64 → b ≡ stands s a.next 94 → Ok (taken t) ≡ steps_behind s c p.next
+      → ((n : ℕ) → has v.words n ≡ (has a.value.words n || has a.value.words n)) → Whole 1 v.words
+      → LineRead (behind_active s c u (picked a)) u k w w' (record { rule = record { conditions = v; anchored = b; trail = 0; steps = t.list }; used = p.value })
+  body_reads t b v few b-is e members whole =
       let made : RuleText = record { active = has a.value.words; anchored = stands s a.next 94; expression = q.pattern.expression; trailing = q.pattern.trailing; steps = taken t } in
       record {
         rule = made;
@@ -52,7 +57,7 @@ module _ (s : List ℕ) (c : Conditions) (u k : ℕ) (w w' : Work) (a : Read (Bi
             ∙ ap (λ (o : Out (List Step)). then o (rule_of (picked a) (stands s a.next 94) q.pattern)) (sym e)
             ∙ ap (λ (n : ℕ). Ok (record { rule = made; used = n })) (sym q.used);
         few = few;
-        holds = record { active = λ n. refl; anchored = b-is; steps = t.padded };
+        holds = record { active = λ n. members n ∙ twice (has a.value.words n); whole = whole; anchored = b-is; steps = t.padded };
         trail = refl;
         counts = q.counts;
         laid = q.joined.laid;

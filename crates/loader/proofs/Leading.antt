@@ -1,13 +1,15 @@
 -- Where one byte leads, and where the byte behind it leads.
-use Rattle.std.proofs.Common.{◌≡◌, ℕ, ◌<◌, List, length, sym, ap, ◌∙◌, subst}
+use Rattle.std.proofs.Common.{◌≡◌, ℕ, ◌+◌, ◌<◌, true, false, ◌&&◌, List, length, sym, ap, ◌∙◌, subst}
 use mathlib.Core.Path.{fun_ext}
+use Rattle.std.proofs.lemmas.Bool.{or_left}
 use Rattle.bits.specs.declared.Bits.{Bits}
 use Rattle.bits.specs.Set.{has}
-use Rattle.positions.specs.Memory.{Work}
-use Rattle.automaton.specs.Sets.{Set}
-use Rattle.automaton.specs.Numbering.{number, meet}
+use Rattle.positions.specs.Memory.{Work, member}
+use Rattle.automaton.specs.Sets.{Set, empty}
+use Rattle.automaton.specs.Numbering.{stored, number, meet}
 use Rattle.automaton.specs.Theorems.{Known}
-use Rattle.automaton.proofs.Meeting.{meet_known, meet_old}
+use Rattle.automaton.proofs.Members.{some_false, empty_from}
+use Rattle.automaton.proofs.Meeting.{meet_known, meet_old, number_empty}
 use Rattle.loader.specs.declared.Met.{Met}
 use Rattle.loader.specs.declared.Lead.{Lead}
 use Rattle.loader.specs.Machine.{members, behind_of, live_in, leads_in}
@@ -38,6 +40,19 @@ module _ (m : Work) (rs : List Set) (s : Set) (b : ℕ) (w' : Work) (live : Bits
     pub leads_full : length w' < length (meet rs (members follow)) → length w' < length (meet rs (leads_in m s b))
     leads_full h = subst (λ (t : Set). length w' < length (meet rs t)) leads_is h
 
+nowhere_empty : (m : Work) (live : Set) → ((p : ℕ) → live p ≡ false) → empty (behind_of m live) ≡ true
+unfolding behind_of
+nowhere_empty m live h = empty_from (behind_of m live) (λ t lt. some_false 512 (λ p. live p && member m (512 + p) t) (λ p small. rw (h p)))
+
+-- nothing comes behind no positions
+pub led_nowhere : (m : Work) (rs : List Set) (l : Lead) → l.number ≡ 0 → ((p : ℕ) → members l.live p ≡ false) → Led m rs l
+led_nowhere m rs l number-is none =
+    let e = nowhere_empty m (members l.live) none in
+    record {
+      known = or_left (empty (behind_of m (members l.live))) (stored rs (behind_of m (members l.live))) e;
+      number = number-is ∙ sym (number_empty rs (behind_of m (members l.live)) e);
+    }
+
 -- the same positions as for the byte before
 pub leads_same : (m : Work) (w : Work) (s : Set) (b : ℕ) (l : Lead) → Stored w l.count → Led m (rows_of w l.count) l → ((p : ℕ) → has l.live.words p ≡ live_in m s b p)
     → LeadsOn m (rows_of w l.count) s b w l
@@ -49,3 +64,10 @@ leads_same m w s b l h k f =
       live = f;
       stored = h;
     }
+
+-- no position takes the byte
+pub leads_nowhere : (m : Work) (w : Work) (n : ℕ) (s : Set) (b : ℕ) (l : Lead) → Stored w n → l.count ≡ n → l.number ≡ 0 → ((p : ℕ) → members l.live p ≡ false) → ((p : ℕ) → live_in m s b p ≡ false)
+    → LeadsOn m (rows_of w n) s b w l
+leads_nowhere m w n s b l h count-is number-is none dead =
+    subst (λ (i : ℕ). LeadsOn m (rows_of w i) s b w l) count-is
+    (leads_same m w s b l (subst (Stored w) (sym count-is) h) (led_nowhere m (rows_of w l.count) l number-is none) (λ p. none p ∙ sym (dead p)))

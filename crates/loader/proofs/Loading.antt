@@ -4,33 +4,28 @@ use Rattle.std.proofs.lemmas.Bool.{cond-true, cond-false, le-leb, lt-leb, leb-tr
 use Rattle.std.proofs.lemmas.List.{length-replicate}
 use Rattle.positions.specs.Memory.{Work}
 use Rattle.grammar.specs.declared.Fault.{Fault}
-use Rattle.grammar.specs.declared.Refusal.{Refusal}
-use Rattle.grammar.specs.declared.Refusal.TheVariants.{Memory, FileTooLong, Misfit, UnknownName, DeclaredAgain, OutOfBounds, LimitPassed, TooManyRows}
+use Rattle.grammar.specs.declared.Refusal.TheVariants.{Memory as TooLittle, TooManyRows}
 use Rattle.grammar.specs.Outcome.{Out, fault, refused, then}
-use Rattle.grammar.specs.File.{RuleFile, sections, rule_file_of}
+use Rattle.grammar.specs.File.{RuleFile, rule_file_of}
 use Rattle.table.specs.declared.loaded.Row.{Row}
 use Rattle.table.specs.declared.loaded.Loaded.{Loaded}
 use Rattle.table.specs.Zeros.{no_row, zeros}
+use Rattle.table.specs.Memory.{Memory, memory}
+use Rattle.table.specs.Readings.{cut}
+use Rattle.automaton.proofs.Ordered.{rows_in_order}
 use Rattle.loader.specs.declared.rules.Counts.{Counts}
 use Rattle.loader.specs.Sections.{FileRead}
 use Rattle.laws.specs.Limits.{FileWithin}
 use Rattle.laws.proofs.Whole.{limits_kept}
 use Rattle.loader.specs.declared.Sizes.{Sizes}
-use Rattle.loader.specs.Load.{enough, sets_of, fitted, outcome, Holds, Cleared, RefusalLeaves, Loads}
+use Rattle.loader.specs.Load.{enough, sets_of, sizes_of, fitted, outcome, all_rows, loaded_of, memory_with, Lists, Loads}
+use Rattle.loader.specs.Held.{HoldsRows}
 use Rattle.loader.specs.Building.{Read, Built}
-use Rattle.loader.proofs.Judged.{OfGrammar, grammar_refuses, some_condition}
+use Rattle.loader.proofs.Judged.{grammar_refuses, some_condition}
+use Rattle.loader.proofs.Exact.{rows_are, loaded_is}
+use Rattle.loader.proofs.ReadAlone.{leaves_zeros, judged}
+use Rattle.loader.proofs.Tables.{tables_list}
 use Rattle.loader.proofs.Passing.{passes}
-
--- zeros are left by each refusal of the grammar
-leaves_zeros : (why : Refusal) (l l' : Loaded) (rows rows' : List Row) (w w' : Work) → OfGrammar why → Cleared l' rows rows' → RefusalLeaves why l l' rows rows' w w'
-leaves_zeros Memory l l' rows rows' w w' g c = absurd g
-leaves_zeros FileTooLong l l' rows rows' w w' g c = absurd g
-leaves_zeros Misfit l l' rows rows' w w' g c = c
-leaves_zeros UnknownName l l' rows rows' w w' g c = c
-leaves_zeros DeclaredAgain l l' rows rows' w w' g c = c
-leaves_zeros OutOfBounds l l' rows rows' w w' g c = c
-leaves_zeros LimitPassed l l' rows rows' w w' g c = c
-leaves_zeros TooManyRows l l' rows rows' w w' g c = absurd g
 
 module _ (text : List ℕ) (l : Loaded) (rows : List Row) (w : Work) (big : true ≡ enough (length rows) (length w)) (short : length text ≤ 8192) where
   pub room : (1 ≤ length rows) × (length rows ≤ 1024) × (4096 ≤ length w)
@@ -39,19 +34,19 @@ module _ (text : List ℕ) (l : Loaded) (rows : List Row) (w : Work) (big : true
       let q = and_parts (leb 1 (length rows)) (leb (length rows) 1024) p.0 in
       (leb-true 1 (length rows) q.0, leb-true (length rows) 1024 q.1, leb-true 4096 (length w) p.1)
 
-  judged : rule_file_of text ≡ sections text
-  judged = cond-true (leb (length text) 8192) (sections text) (refused FileTooLong 0) (le-leb (length text) 8192 short)
-
   outcome_is : outcome text (length rows) (length w) ≡ then (rule_file_of text) (fitted text (length rows))
-  outcome_is = cond-true (enough (length rows) (length w)) (then (rule_file_of text) (fitted text (length rows))) (refused Memory 0) (sym big)
+  outcome_is = cond-true (enough (length rows) (length w)) (then (rule_file_of text) (fitted text (length rows))) (refused TooLittle 0) (sym big)
+
+  -- zeros are left
+  zeros_left : (l' : Loaded) (rows' : List Row) → l' ≡ zeros → rows' ≡ replicate (length rows) no_row → memory l' rows' ≡ memory zeros (replicate (length rows) no_row)
+  zeros_left l' rows' z zs = λ i. record { loaded = z i; rows = zs i }
 
   -- the grammar refuses
   pub loads_refused : (e : Fault) (r : Result Sizes Fault) (l' : Loaded) (rows' : List Row) (w' : Work) → r ≡ Err e → rule_file_of text ≡ Err e → l' ≡ zeros → rows' ≡ replicate (length rows) no_row
-      → Loads text l l' rows rows' w w' r
-  loads_refused e r l' rows' w' r-is o z zs = subst (Loads text l l' rows rows' w w') (sym r-is) (record {
+      → Loads text (memory l rows) (memory l' rows') w w' r
+  loads_refused e r l' rows' w' r-is o z zs = subst (Loads text (memory l rows) (memory l' rows') w w') (sym r-is) (record {
     answer = sym (outcome_is ∙ ap (λ (x : Out RuleFile). then x (fitted text (length rows))) o);
-    leaves = leaves_zeros e.refusal l l' rows rows' w w' (grammar_refuses text e (sym judged ∙ o)) (record { loaded = z; all_rows = zs });
-    passes = tt;
+    leaves = leaves_zeros e.refusal (memory l rows) (memory l' rows') (memory zeros (replicate (length rows) no_row)) w w' (grammar_refuses text e (sym (judged text short) ∙ o)) (zeros_left l' rows' z zs);
   })
 
   module _ (f : RuleFile) (o : rule_file_of text ≡ Ok f) where
@@ -60,27 +55,42 @@ module _ (text : List ℕ) (l : Loaded) (rows : List Row) (w : Work) (big : true
 
     -- there are too many rows
     pub loads_full : (e : Fault) (l' : Loaded) (rows' : List Row) (w' : Work) → e ≡ fault TooManyRows (length text) → length rows < length (sets_of f (length rows)) → l' ≡ zeros → rows' ≡ replicate (length rows) no_row
-        → Loads text l l' rows rows' w w' (Err e)
-    loads_full e l' rows' w' e-is h z zs = subst (λ (x : Fault). Loads text l l' rows rows' w w' (Err x)) (sym e-is) (record {
-      answer = sym (fits_is ∙ cond-false (leb (length (sets_of f (length rows))) (length rows)) (Ok (record { rules = length f.rules; conditions = length f.conditions.names; rows = length (sets_of f (length rows)) })) (refused TooManyRows (length text)) (lt-leb (length (sets_of f (length rows))) (length rows) h));
-      leaves = record { loaded = z; all_rows = zs };
-      passes = tt;
+        → Loads text (memory l rows) (memory l' rows') w w' (Err e)
+    loads_full e l' rows' w' e-is h z zs = subst (λ (x : Fault). Loads text (memory l rows) (memory l' rows') w w' (Err x)) (sym e-is) (record {
+      answer = sym (fits_is ∙ cond-false (leb (length (sets_of f (length rows))) (length rows)) (Ok (sizes_of f (length rows))) (refused TooManyRows (length text)) (lt-leb (length (sets_of f (length rows))) (length rows) h));
+      leaves = zeros_left l' rows' z zs;
     })
 
     -- all fits
     pub loads_built : (n : Sizes) (l' : Loaded) (rows' : List Row) (w' : Work) → n.rules ≡ length f.rules → n.conditions ≡ length f.conditions.names → length rows' ≡ length rows → Built f n.rows l' rows rows'
-        → Loads text l l' rows rows' w w' (Ok n)
+        → Loads text (memory l rows) (memory l' rows') w w' (Ok n)
     loads_built n l' rows' w' rules-is conditions-is as-many b = record {
-      answer = ap Ok sizes_are ∙ sym (fits_is ∙ cond-true (leb (length (sets_of f (length rows))) (length rows)) (Ok (record { rules = length f.rules; conditions = length f.conditions.names; rows = length (sets_of f (length rows)) })) (refused TooManyRows (length text))
-          (le-leb (length (sets_of f (length rows))) (length rows) (omega (arith, b.count, b.room))));
-      leaves = (f, o, b.holds);
-      passes = passes text f n.rows l' rows rows' o b (some_condition text f (sym judged ∙ o)) as-many;
+      answer = ap Ok sizes_are ∙ sym (fits_is ∙ cond-true (leb (length (sets_of f (length rows))) (length rows)) (Ok (sizes_of f (length rows))) (refused TooManyRows (length text)) (le-leb (length (sets_of f (length rows))) (length rows) few));
+      leaves = record {
+        says = f;
+        right = o;
+        loaded = memory_is;
+        sound = passes text f n.rows l' rows rows' o b (some_condition text f (sym (judged text short) ∙ o)) as-many;
+        lists = subst (λ (m : Memory). Lists f.rules (cut m)) (sym memory_is) (tables_list text f (length rows) o few);
+        in_order = rows_in_order f.rules (length f.conditions.names) (length rows) few;
+      };
     }
       where
-        sizes_are : n ≡ (record { rules = length f.rules; conditions = length f.conditions.names; rows = length (sets_of f (length rows)) })
-        sizes_are = ap (λ (i : ℕ). record { rules = i; conditions = n.conditions; rows = n.rows }) rules-is
-            ∙ ap (λ (i : ℕ). record { rules = length f.rules; conditions = i; rows = n.rows }) conditions-is
-            ∙ ap (λ (i : ℕ). record { rules = length f.rules; conditions = length f.conditions.names; rows = i }) b.count
+        few : length (sets_of f (length rows)) ≤ length rows
+        few = omega (arith, b.count, b.room)
+
+        limits : FileWithin text f
+        limits = limits_kept text f o
+
+        memory_is : memory l' rows' ≡ memory_with f (length rows)
+        memory_is =
+            let loaded-is : l' ≡ loaded_of f (sets_of f (length rows)) = loaded_is f (sets_of f (length rows)) l' rows' limits.rules_64 b.holds in
+            let rows-are : rows' ≡ all_rows f.rules (sets_of f (length rows)) (length rows) =
+            rows_are f.rules limits.rules_64 (sets_of f (length rows)) rows' (omega arith) b.holds.rows_hold ∙ ap (all_rows f.rules (sets_of f (length rows))) as-many in
+            λ i. record { loaded = loaded-is i; rows = rows-are i }
+
+        sizes_are : n ≡ sizes_of f (length rows)
+        sizes_are = λ i. record { rules = rules-is i; conditions = conditions-is i; rows = b.count i }
 
 -- what has been read keeps the limits
 module _ (text : List ℕ) (l : Loaded) (w : Work) (c : Counts) (h : FileRead (rule_file_of text) w l c) where
@@ -107,7 +117,7 @@ pub built_in : (f : RuleFile) (n : ℕ) (l : Loaded) (rows zs rows' : List Row) 
 built_in f n l rows zs rows' e b = record {
   count = b.count ∙ ap (λ (m : ℕ). length (sets_of f m)) e;
   room = omega (arith, b.room);
-  holds = subst (λ (m : ℕ). Holds f (sets_of f m) l rows') e b.holds;
+  holds = subst (λ (m : ℕ). HoldsRows f (sets_of f m) l rows') e b.holds;
   marked = b.marked;
 }
 

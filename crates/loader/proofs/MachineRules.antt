@@ -13,7 +13,7 @@ use Rattle.positions.proofs.Sets.{between_in, between_below}
 use Rattle.grammar.specs.File.{RuleText, rule_size, all_positions}
 use Rattle.table.specs.declared.loaded.Rule.{Rule}
 use Rattle.table.specs.declared.loaded.Loaded.{Loaded}
-use Rattle.loader.specs.Loaded.{RulesHold}
+use Rattle.loader.specs.Held.{RulesHold}
 use Rattle.automaton.specs.Pattern.{slash, pattern_size, pattern_takes, trail_after, behind_last, pattern_after}
 use Rattle.loader.specs.Laid.{RulesLaid, RulesKept}
 use Rattle.loader.proofs.HeldRules.{laid_kept}

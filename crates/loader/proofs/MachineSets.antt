@@ -1,19 +1,22 @@
 -- Sets of the machine: those that pass a test below a bound, the takers of a byte, and marks.
-use Rattle.std.proofs.Common.{◌≡◌, ℕ, zero, suc, ◌+◌, ◌-◌, ◌^◌, ◌<◌, ◌≤◌, Bool, true, false, not, cond, ◌&&◌, ◌||◌, ltb, List, length, set, sym, refl, ◌∙◌, inl, inr, arith, add-one}
-use mathlib.Core.Bool.{or_comm}
+use Rattle.std.proofs.Common.{◌≡◌, ℕ, zero, suc, ◌+◌, ◌-◌, ◌^◌, ◌<◌, ◌≤◌, Bool, true, false, not, cond, ◌&&◌, ltb, List, [], length, take, drop, get_or, set, sym, refl, ap, ◌∙◌, inl, inr, arith, length-take}
 use lib.Bits.{bit_or}
-use Rattle.std.proofs.lemmas.Bool.{cases_eq, cases_lt, and_left, and_parts}
-use Rattle.std.proofs.lemmas.Bool.Decides.{nat_tests}
+use Rattle.std.specs.Bool.{Decides}
+use Rattle.std.proofs.lemmas.Bool.{cases_eq, cases_lt, or_cases, and_parts, and_from, false≢true}
+use Rattle.std.proofs.lemmas.List.{get_or-take, get_or-drop}
+use Rattle.std.proofs.lemmas.Bool.Decides.{nat_tests, same_from_decides}
 use Rattle.std.proofs.lemmas.Nat.{or_lt}
 use Rattle.std.proofs.Math.Pow.{pow-lt}
 use Rattle.bits.specs.Set.{bit, has}
+use Rattle.bits.specs.Sets.{InUnion}
 use Rattle.bits.specs.declared.Bits.{Bits}
 use Rattle.bits.proofs.Words.{bit-or, bit_pow, has_past}
+use Rattle.bits.proofs.Unions.{past_last}
 use Rattle.positions.specs.Memory.{Work, member, between}
 use Rattle.positions.proofs.Sets.{member_set, between_in, between_below}
-use Rattle.automaton.specs.Sets.{Set, some}
+use Rattle.automaton.specs.Sets.{some}
 use Rattle.automaton.specs.Automaton.{meets}
-use Rattle.automaton.proofs.Members.{meets_from, meets_false}
+use Rattle.automaton.proofs.Members.{some_from, meets_from, meets_false}
 use Rattle.loader.specs.Machine.{behind_of}
 
 -- one more set of takers
@@ -42,14 +45,6 @@ takers_more w w' n b s few room inv here k q =
               rw (in_it, back) (grind (arith, nat_tests))
           | inr past ↦ rw (in_it, back) (grind (arith, nat_tests))
         ]
-
--- where no number from n on passes, those below n are all
-pub some_below : (n m : ℕ) (test : ℕ → Bool) → n ≤ m → ((p : ℕ) → n ≤ p → p < m → test p ≡ false) → some m test ≡ some n test
-some_below n zero test h none = let e : n ≡ 0 = omega arith in rw e
-some_below n (suc m) test h none = elim (cases_eq n (suc m)) [
-  | inl e ↦ rw e
-  | inr ne ↦ rw (none m (omega arith) (omega arith)) (some_below n m test (omega arith) (λ p l k. none p l (omega arith)))
-]
 
 -- members lie below 512
 pub member_below : (ws : List ℕ) (p : ℕ) → length ws ≡ 8 → has ws p ≡ true → p < 512
@@ -83,17 +78,40 @@ marks_same marks i now few inv none = record { bits = bits; few = omega (arith, 
           | inr ne ↦ grind (arith, nat_tests)
         ]
 
-pub behind_end : (m : Work) (s : Set) (from t : ℕ) → from ≤ 512 → ((p : ℕ) → from ≤ p → p < 512 → s p ≡ false) → some from (λ p. s p && member m (512 + p) t) ≡ behind_of m s t
-unfolding behind_of
-behind_end m s from t h none = sym (some_below from 512 (λ p. s p && member m (512 + p) t) h (λ p l k. and_left (s p) (member m (512 + p) t) (none p l k)))
+some_within : (n : ℕ) (test : ℕ → Bool) → some n test ≡ true → (p : ℕ) × (p < n) × (test p ≡ true)
+some_within zero test h = absurd (false≢true h)
+some_within (suc n) test h = elim (or_cases (test n) (some n test) h) [
+  | inl now ↦ (n, omega arith, now)
+  | inr before ↦ let r = some_within n test before in (r.0, omega arith, r.2)
+]
 
--- the next member p, from `from` on
-pub behind_next : (m : Work) (s : Set) (from p t : ℕ) → from ≤ p → s p ≡ true → ((j : ℕ) → from ≤ j → j < p → s j ≡ false)
-    → (some from (λ p. s p && member m (512 + p) t) || member m (512 + p) t) ≡ some (p + 1) (λ p. s p && member m (512 + p) t)
-behind_next m s from p t h at none =
-    let test : ℕ → Bool = λ p. s p && member m (512 + p) t in
-    let all : some p test ≡ some from test = some_below from p test h (λ j l k. and_left (s j) (member m (512 + j) t) (none j l k)) in
-    rw (add-one, at, all) (or_comm (some from test) (member m (512 + p) t))
+-- the part of n sets from a on
+pub part_at : (w : Work) (a n k : ℕ) (d : Bits 8) → k < n → get_or (take n (drop a w)) k d ≡ get_or w (a + k) d
+part_at w a n k d lt = get_or-take n (drop a w) k d lt ∙ get_or-drop a w k d
+
+-- the union of the sets that stand for what follows each position
+module _ (m : Work) (live r : List ℕ) (t : ℕ) where
+  abbrev after : Work
+  after = take 512 (drop 512 m)
+
+  after_at : (p : ℕ) → p < 512 → member after p t ≡ member m (512 + p) t
+  after_at p lt = ap (λ (s : Bits 8). has s.words t) (part_at m 512 512 p (record { words = [] }) lt)
+
+  behind_decides : Decides (behind_of m (has live) t) (InUnion live after t)
+  unfolding behind_of
+  behind_decides = (
+    λ h.
+        let r = some_within 512 (λ p. has live p && member m (512 + p) t) h in
+        let two = and_parts (has live r.0) (member m (512 + r.0) t) r.2 in
+        (r.0, two.0, after_at r.0 r.1 ∙ two.1),
+    λ (p, e, h). elim (cases_lt p 512) [
+      | inl lt ↦ some_from 512 p (λ q. has live q && member m (512 + q) t) lt (and_from (has live p) (member m (512 + p) t) e (sym (after_at p lt) ∙ h))
+      | inr past ↦ absurd (false≢true (sym (past_last after p t (omega (arith, length-take 512 (drop 512 m)))) ∙ h))
+    ],
+  )
+
+  pub union_behind : Decides (has r t) (InUnion live after t) → has r t ≡ behind_of m (has live) t
+  union_behind d = same_from_decides (has r t) (behind_of m (has live) t) d behind_decides
 
 -- whether what both have is empty
 pub shared : (ws vs both : List ℕ) (e : Bool) → length both ≡ 8 → ((j : ℕ) → has both j ≡ (has ws j && has vs j))

@@ -4,7 +4,6 @@ use Rattle.std.proofs.lemmas.Bool.{cases_Bool, or_left, and_left, and_right}
 use Rattle.bits.specs.Set.{bit}
 use Rattle.bits.proofs.Words.{bit_zero}
 use Rattle.grammar.specs.File.{RuleText}
-use Rattle.table.specs.declared.loaded.Row.{Row}
 use Rattle.automaton.specs.Sets.{Set, empty, same}
 use Rattle.automaton.specs.Automaton.{takes, after, end_mark, slash_mark, leads, meets}
 use Rattle.automaton.specs.Numbering.{stored, number, none}
@@ -12,9 +11,9 @@ use Rattle.automaton.specs.Theorems.{Known, FirstSame}
 use Rattle.automaton.proofs.Members.{some_both, some_false, meets_false, same_true, same_empty, same_leads, empty_true, empty_from}
 use Rattle.automaton.proofs.Meeting.{stored_first, place_first, number_empty, number_placed}
 use Rattle.automaton.proofs.Alike.{alike_same, alike_stored, alike_number}
-use Rattle.table.specs.Memory.{row_at}
+use Rattle.table.specs.Memory.{Memory, row_at}
 use Rattle.table.specs.Readings.{next_row, end_marks, slash_marks}
-use Rattle.loader.specs.Load.{RowHolds}
+use Rattle.loader.specs.Held.{RowHolds}
 use Rattle.loader.proofs.Rows.{end_past}
 use Rattle.automaton.specs.Reached.{reached}
 use Rattle.scan.specs.Listed.{row_after}
@@ -47,20 +46,20 @@ numbered rs s k = elim (cases_Bool (empty s)) [
 same_known : (rs : List Set) (s t : Set) → same s t ≡ true → Known rs s → Known rs t
 same_known rs s t h k = ap (λ x. x || stored rs t) (sym (same_empty s t h)) ∙ ap (λ x. empty s || x) (sym (alike_stored rs rs s t (alike_same rs) h)) ∙ k
 
-module _ (qs : List RuleText) (rs : List Set) (rows : List Row) (hold : (k : ℕ) → k < length rs → RowHolds qs rs (get_or rs k none) (row_at rows k)) where
-  pub ends_are : (s : Set) (i : ℕ) → Known rs s → bit (end_marks rows (number rs s)) i ≡ meets s (end_mark qs 0 i)
+module _ (qs : List RuleText) (rs : List Set) (mem : Memory) (hold : (k : ℕ) → k < length rs → RowHolds qs rs (get_or rs k none) (row_at mem.rows k)) where
+  pub ends_are : (s : Set) (i : ℕ) → Known rs s → bit (end_marks mem (number rs s)) i ≡ meets s (end_mark qs 0 i)
   ends_are s i k = elim (numbered rs s k) [
     | inl e ↦ rw e.1 (bit_zero i ∙ sym (empty_meets s (end_mark qs 0 i) e.0))
     | inr q ↦ rw q.1 ((hold q.0 q.2.within).ends i ∙ same_meets (get_or rs q.0 none) s (end_mark qs 0 i) q.2.equal)
   ]
 
-  pub slashes_are : (s : Set) (i : ℕ) → Known rs s → bit (slash_marks rows (number rs s)) i ≡ meets s (slash_mark qs 0 i)
+  pub slashes_are : (s : Set) (i : ℕ) → Known rs s → bit (slash_marks mem (number rs s)) i ≡ meets s (slash_mark qs 0 i)
   slashes_are s i k = elim (numbered rs s k) [
     | inl e ↦ rw e.1 (bit_zero i ∙ sym (empty_meets s (slash_mark qs 0 i) e.0))
     | inr q ↦ rw q.1 ((hold q.0 q.2.within).slashes i ∙ same_meets (get_or rs q.0 none) s (slash_mark qs 0 i) q.2.equal)
   ]
 
-  next_is : (s : Set) (b : ℕ) → Known rs s → b < 256 → next_row rows (number rs s) b ≡ number rs (leads qs s b)
+  next_is : (s : Set) (b : ℕ) → Known rs s → b < 256 → next_row mem (number rs s) b ≡ number rs (leads qs s b)
   next_is s b k lt = elim (numbered rs s k) [
     | inl e ↦ rw e.1 (sym (number_empty rs (leads qs s b) (empty_leads qs s b e.0)))
     | inr q ↦
@@ -78,7 +77,7 @@ module _ (qs : List RuleText) (rs : List Set) (rows : List Row) (hold : (k : ℕ
     ]
 
     -- bytes lead to the row of the set that they lead to
-    pub row_reached : (s : Set) (t : List ℕ) → Known rs s → All (λ b. b < 256) t → (row_after rows (number rs s) t ≡ number rs (reached qs s t)) × Known rs (reached qs s t)
+    pub row_reached : (s : Set) (t : List ℕ) → Known rs s → All (λ b. b < 256) t → (row_after mem (number rs s) t ≡ number rs (reached qs s t)) × Known rs (reached qs s t)
     row_reached s [] k a = (refl, k)
     row_reached s (b ∷ t) k a =
         let lt : b < 256 = a 0 0 (omega arith) in

@@ -9,7 +9,7 @@ use Rattle.table.specs.declared.loaded.Rule.{Rule}
 use Rattle.table.specs.declared.loaded.StartRows.{StartRows}
 use Rattle.table.specs.declared.loaded.Loaded.{Loaded}
 use Rattle.table.specs.Zeros.{no_rule, no_start}
-use Rattle.loader.specs.Loaded.{RuleHolds, RulesHold, trails_of}
+use Rattle.loader.specs.Held.{RuleHolds, RulesHold, trails_of}
 use Rattle.laws.specs.Limits.{Each, StepWithin, RuleWithin, FileWithin}
 use Rattle.laws.proofs.Whole.{limits_kept}
 use Rattle.automaton.specs.Sets.{Set}
@@ -17,7 +17,7 @@ use Rattle.automaton.specs.Automaton.{start_set, trail_set, leads}
 use Rattle.automaton.specs.Numbering.{none}
 use Rattle.automaton.specs.Theorems.{Closed}
 use Rattle.automaton.proofs.Rows.{met_are_stored, entries_within}
-use Rattle.table.specs.Memory.{row_at, rule_at, start_at, StartIn, MarkedIn, ActiveIn, step_in, BeginsIn, IsTable}
+use Rattle.table.specs.Memory.{row_at, rule_at, start_at, StartIn, MarkedIn, ActiveIn, step_in, BeginsIn, IsTable, memory}
 use Rattle.table.proofs.Active.{none_active}
 use Rattle.table.proofs.Kept.{no_rule_inactive, no_rule_begins}
 use Rattle.loader.specs.Load.{sets_of, start_of, trail_of}
@@ -121,7 +121,7 @@ module _ (text : List ℕ) (f : RuleFile) (n : ℕ) (l : Loaded) (rows rows' : L
   tame : (i : ℕ) → Tame l.condition_count (rule_at l i)
   tame i = subst (λ (m : ℕ). Tame m (rule_at l i)) (sym b.holds.condition_count) (each_tame (length f.conditions.names) l.rules f.rules _ (record { active = none_active (length f.conditions.names); begins = λ j lt. refl }) b.holds.rules limits.each_rule i)
 
-  pub passes : 1 ≤ length f.conditions.names → length rows' ≡ length rows → IsTable l rows'
+  pub passes : 1 ≤ length f.conditions.names → length rows' ≡ length rows → IsTable (memory l rows')
   passes some as-many = (
     (omega (arith, count, few), omega (arith, b.holds.rule_count, limits.rules_64), omega (arith, b.holds.condition_count), omega (arith, b.holds.condition_count, limits.eight_conditions)),
     start_in,

@@ -17,7 +17,7 @@ end_past [] a i p h = refl
 end_past (q ∷ qs) a zero p h = absurd (omega arith)
 end_past (q ∷ qs) a (suc i) p h = end_past qs (a + rule_size q) i p (omega arith)
 
-slash_past : (qs : List RuleText) (a i p : ℕ) → length qs ≤ i → slash_mark qs a i p ≡ false
+pub slash_past : (qs : List RuleText) (a i p : ℕ) → length qs ≤ i → slash_mark qs a i p ≡ false
 slash_past [] a i p h = refl
 slash_past (q ∷ qs) a zero p h = absurd (omega arith)
 slash_past (q ∷ qs) a (suc i) p h = slash_past qs (a + rule_size q) i p (omega arith)

@@ -4,7 +4,7 @@ use Rattle.std.proofs.lemmas.Bool.{cases_eq}
 use Rattle.positions.specs.Memory.{Work}
 use Rattle.grammar.specs.File.{RuleText}
 use Rattle.table.specs.declared.loaded.Loaded.{Loaded}
-use Rattle.loader.specs.Loaded.{RulesHold}
+use Rattle.loader.specs.Held.{RulesHold}
 use Rattle.automaton.specs.Sets.{Set}
 use Rattle.automaton.specs.Automaton.{start_set}
 use Rattle.automaton.specs.Numbering.{number, meet, meet_all, starts}
@@ -76,7 +76,7 @@ starts_none qs = refl
 
 pub starting_start : (m w : Work) (l : Loaded) → length w ≤ 1024 → Starting m w 0 0 l l
 starting_start m w l h = record {
-  stored = record { room = omega arith; most = h; whole = λ k lt. absurd (omega arith) };
+  stored = record { room = omega arith; most = h; whole = λ k lt. absurd (omega arith); filled = λ k lt. absurd (omega arith); apart = λ j k less lt. absurd (omega arith) };
   only = record { as_many = refl; rules = refl; rule_count = refl; condition_count = refl; row_count = refl };
   so_far = λ qs a b. record {
     rows = refl;

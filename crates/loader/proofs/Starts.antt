@@ -1,24 +1,25 @@
 -- The rows that a loaded table starts from are those of the start sets and of the trail starts.
-use Rattle.std.proofs.Common.{◌≡◌, ℕ, suc, ◌+◌, ◌<◌, ◌≤◌, Bool, true, false, cond, ◌&&◌, ltb, List, [], ◌∷◌, length, get_or, sym, refl, ap, ◌∙◌, inl, inr, arith}
-use lib.ListN.{get_or-map}
+use Rattle.std.proofs.Common.{◌≡◌, ℕ, suc, ◌+◌, ◌<◌, ◌≤◌, Bool, true, false, cond, ◌&&◌, ltb, List, [], ◌∷◌, length, get_or, replicate, Ok, sym, refl, ap, ◌∙◌, subst, ◌-◌, inl, inr, arith}
+use Rattle.std.proofs.lemmas.List.{get_or-take}
 use Rattle.std.proofs.lemmas.Bool.{cases_lt, or_left, or_from, and_left, cond-true, cond-false, lt-ltb, le-ltb, false_from_ne_true}
 use Rattle.patterns.specs.Positions.{first}
-use Rattle.grammar.specs.File.{RuleText, RuleFile, rule_size}
+use Rattle.grammar.specs.File.{RuleText, RuleFile, rule_size, rule_file_of}
 use Rattle.laws.specs.Limits.{Each, RuleWithin, FileWithin}
-use Rattle.table.specs.declared.loaded.Row.{Row}
-use Rattle.table.specs.declared.loaded.Rule.{Rule}
+use Rattle.laws.proofs.Whole.{limits_kept}
 use Rattle.table.specs.declared.loaded.StartRows.{StartRows}
-use Rattle.table.specs.declared.loaded.Loaded.{Loaded}
-use Rattle.table.specs.Zeros.{no_start}
+use Rattle.table.specs.Zeros.{no_rule, no_start}
 use Rattle.automaton.specs.Sets.{Set, empty}
 use Rattle.automaton.specs.Automaton.{live, start_set, trail_set}
-use Rattle.automaton.specs.Numbering.{stored, number}
+use Rattle.automaton.specs.Numbering.{stored, number, none}
 use Rattle.automaton.specs.Theorems.{Known, Closed}
 use Rattle.automaton.proofs.Members.{empty_from}
 use Rattle.automaton.proofs.Meeting.{number_empty}
-use Rattle.table.specs.Memory.{rule_at, start_at}
-use Rattle.table.specs.Readings.{start_row, trail_row}
-use Rattle.loader.specs.Load.{start_of, trail_of, Holds}
+use Rattle.automaton.proofs.Rows.{met_are_stored}
+use Rattle.table.specs.Memory.{Memory, row_at, rule_at, start_at}
+use Rattle.table.specs.Readings.{cut, start_row, trail_row}
+use Rattle.loader.specs.Load.{sets_of, filled, start_of, trail_of, memory_with}
+use Rattle.loader.specs.Held.{RowHolds}
+use Rattle.loader.proofs.Exact.{row_in, row_holds, trail_in}
 use Rattle.loader.proofs.Built.{filled_at}
 
 -- no rule is active in a condition past the last
@@ -33,14 +34,53 @@ module _ (n c : ℕ) (line : Bool) (past : n ≤ c) where
       (and_left (live q c line) (first q.expression (a + 1) p) (none_live q w.0))
       (none_starts qs (a + rule_size q) p w.1)
 
--- an accepted file, and memory that holds it: each set that a scan may come to has a row
-pub record Ready (file : List ℕ) (f : RuleFile) (rs : List Set) (most : ℕ) (l : Loaded) (rows : List Row) : Type 0 where
+-- an accepted file, and memory that it is loaded into: each set that a scan may come to has a row
+pub record Ready (file : List ℕ) (f : RuleFile) (rs : List Set) (most : ℕ) (m : Memory) : Type 0 where
   pub within : FileWithin file f
   pub few : length rs ≤ most
   pub closed : Closed f.rules (length f.conditions.names) most rs
-  pub holds : Holds f rs l rows
+  pub rows : (k : ℕ) → k < length rs → RowHolds f.rules rs (get_or rs k none) (row_at m.rows k)
+  pub starts : m.loaded.starts ≡ filled (start_of f.rules rs) (length f.conditions.names) 8 no_start
+  pub trails : (i : ℕ) → i < length f.rules → (rule_at m.loaded i).trail ≡ trail_of f.rules rs i
+  pub rule_count : m.loaded.rule_count ≡ length f.rules
+  pub condition_count : m.loaded.condition_count ≡ length f.conditions.names
+  pub row_count : m.loaded.row_count ≡ length rs
 
-module _ {file : List ℕ} {f : RuleFile} {rs : List Set} {most : ℕ} {l : Loaded} {rows : List Row} (ready : Ready file f rs most l rows) where
+-- whatever a file is loaded as
+pub ready_with : (file : List ℕ) (f : RuleFile) (n : ℕ) → rule_file_of file ≡ Ok f → length (sets_of f n) ≤ n → Ready file f (sets_of f n) n (memory_with f n)
+ready_with file f n right few = record {
+  within = within;
+  few = few;
+  closed = met_are_stored f.rules (length f.conditions.names) n;
+  rows = λ k lt. subst (RowHolds f.rules rs (get_or rs k none)) (sym (row_in f.rules rs n k lt)) (row_holds f.rules within.rules_64 rs (get_or rs k none));
+  starts = refl;
+  trails = λ i lt. let e : 0 + i ≡ i = omega arith in trail_in (trail_of f.rules rs) 0 f.rules (replicate (64 - length f.rules) no_rule) i lt ∙ ap (trail_of f.rules rs) e;
+  rule_count = refl;
+  condition_count = refl;
+  row_count = refl;
+}
+  where
+    rs : List Set
+    rs = sets_of f n
+
+    within : FileWithin file f
+    within = limits_kept file f right
+
+-- and the same without the rows that it does not need
+pub ready_cut : {file : List ℕ} {f : RuleFile} {rs : List Set} {most : ℕ} {m : Memory} → Ready file f rs most m → Ready file f rs most (cut m)
+ready_cut {f = f} {rs = rs} {m = m} r = record {
+  within = r.within;
+  few = r.few;
+  closed = r.closed;
+  rows = λ k lt. subst (RowHolds f.rules rs (get_or rs k none)) (sym (get_or-take m.loaded.row_count m.rows k _ (omega (arith, r.row_count)))) (r.rows k lt);
+  starts = r.starts;
+  trails = r.trails;
+  rule_count = r.rule_count;
+  condition_count = r.condition_count;
+  row_count = r.row_count;
+}
+
+module _ {file : List ℕ} {f : RuleFile} {rs : List Set} {most : ℕ} {m : Memory} (ready : Ready file f rs most m) where
   start_empty : (c : ℕ) (line : Bool) → length f.conditions.names ≤ c → empty (start_set f.rules 0 c line) ≡ true
   start_empty c line past = empty_from (start_set f.rules 0 c line) (λ p lt. none_starts (length f.conditions.names) c line past f.rules 0 p ready.within.each_rule)
 
@@ -50,17 +90,17 @@ module _ {file : List ℕ} {f : RuleFile} {rs : List Set} {most : ℕ} {l : Load
     | inr past ↦ or_left (empty (start_set f.rules 0 c line)) (stored rs (start_set f.rules 0 c line)) (start_empty c line past)
   ]
 
-  start_held : (c : ℕ) → c < length f.conditions.names → start_at l c ≡ start_of f.rules rs c
-  start_held c lt = ap (λ (xs : List StartRows). get_or xs c (record { inside = 0; at_line_start = 0 })) ready.holds.starts ∙ filled_at (start_of f.rules rs) (length f.conditions.names) 8 no_start _ c lt
+  start_held : (c : ℕ) → c < length f.conditions.names → start_at m.loaded c ≡ start_of f.rules rs c
+  start_held c lt = ap (λ (xs : List StartRows). get_or xs c (record { inside = 0; at_line_start = 0 })) ready.starts ∙ filled_at (start_of f.rules rs) (length f.conditions.names) 8 no_start _ c lt
 
-  pub start_is : (c : ℕ) (line : Bool) → start_row l c line ≡ number rs (start_set f.rules 0 c line)
+  pub start_is : (c : ℕ) (line : Bool) → start_row m c line ≡ number rs (start_set f.rules 0 c line)
   start_is c line = elim (cases_lt c (length f.conditions.names)) [
     | inl here ↦
-        cond-true (ltb c l.condition_count) (cond line (start_at l c).at_line_start (start_at l c).inside) 0 (lt-ltb c l.condition_count (omega (arith, ready.holds.condition_count)))
+        cond-true (ltb c m.loaded.condition_count) (cond line (start_at m.loaded c).at_line_start (start_at m.loaded c).inside) 0 (lt-ltb c m.loaded.condition_count (omega (arith, ready.condition_count)))
         ∙ ap (λ (s : StartRows). cond line s.at_line_start s.inside) (start_held c here)
         ∙ either line
     | inr past ↦
-        cond-false (ltb c l.condition_count) (cond line (start_at l c).at_line_start (start_at l c).inside) 0 (le-ltb c l.condition_count (omega (arith, ready.holds.condition_count)))
+        cond-false (ltb c m.loaded.condition_count) (cond line (start_at m.loaded c).at_line_start (start_at m.loaded c).inside) 0 (le-ltb c m.loaded.condition_count (omega (arith, ready.condition_count)))
         ∙ sym (number_empty rs (start_set f.rules 0 c line) (start_empty c line past))
   ]
     where
@@ -68,9 +108,7 @@ module _ {file : List ℕ} {f : RuleFile} {rs : List Set} {most : ℕ} {l : Load
       either true = refl
       either false = refl
 
-  pub trail_is : (i : ℕ) → i < length f.rules → trail_row l (suc i) ≡ number rs (trail_set f.rules 0 i)
+  pub trail_is : (i : ℕ) → i < length f.rules → trail_row m (suc i) ≡ number rs (trail_set f.rules 0 i)
   trail_is i lt =
-      cond-true (ltb i l.rule_count) (rule_at l i).trail 0 (lt-ltb i l.rule_count (omega (arith, ready.holds.rule_count)))
-      ∙ sym (get_or-map (λ (r : Rule). r.trail) l.rules i (record { conditions = record { words = [] }; anchored = false; trail = 0; steps = [] }))
-      ∙ ap (λ xs. get_or xs i 0) ready.holds.trails
-      ∙ filled_at (trail_of f.rules rs) (length f.rules) 64 0 0 i lt
+      cond-true (ltb i m.loaded.rule_count) (rule_at m.loaded i).trail 0 (lt-ltb i m.loaded.rule_count (omega (arith, ready.rule_count)))
+      ∙ ready.trails i lt

@@ -1,7 +1,7 @@
 -- Sets in the work memory, seen as rows by their members.
-use Rattle.std.proofs.Common.{◌≡◌, ℕ, suc, ◌+◌, ◌<◌, ◌≤◌, Bool, true, false, ◌||◌, ◌≢◌, List, [], ◌∷◌, ◌++◌, map, length, take, get_or, set, min, Ok, Err, Result, sym, refl, ap, ◌∙◌, subst, inl, inr, arith, length-take, length-append, length-set, get_or-set_other, get_or-set_same}
+use Rattle.std.proofs.Common.{◌≡◌, ℕ, suc, ◌+◌, ◌<◌, ◌≤◌, Bool, true, false, ◌||◌, ◌≢◌, List, [], ◌∷◌, ◌++◌, map, length, take, get_or, set, min, Some, Ok, Err, Result, sym, refl, ap, ◌∙◌, subst, inl, inr, arith, length-take, length-append, length-set, get_or-set_other, get_or-set_same}
 use mathlib.Core.Path.{fun_ext}
-use Rattle.std.proofs.lemmas.List.{get_or-map, get_or-take, take_more_set, map-append, length-map}
+use Rattle.std.proofs.lemmas.List.{get_or-map, get_or-take, get_or_default, take_more_set, map-append, length-map}
 use Rattle.std.proofs.lemmas.Bool.{cases_lt, cases_eq, cases_Bool, false≢true, or_parts, or_left, or_right, cond-true, cond-false}
 use Rattle.bits.specs.declared.Bits.{Bits}
 use Rattle.bits.specs.Set.{has, Whole}
@@ -17,7 +17,7 @@ use Rattle.automaton.specs.Theorems.{Known, FirstSame}
 use Rattle.automaton.proofs.Members.{same_true, empty_from, empty_true, same_refl}
 use Rattle.automaton.proofs.Meeting.{stored_none, stored_first, place_first, number_empty, number_placed, meet_old, meet_new}
 use Rattle.loader.specs.Machine.{members}
-use Rattle.loader.specs.Building.{rows_of, Stored, MetAs}
+use Rattle.loader.specs.Building.{rows_of, Stored, Guessed, MetAs}
 
 abbrev pub nil : Bits 8
 nil = record { words = [] }
@@ -47,15 +47,35 @@ module _ (w : Work) (n : ℕ) (room : n ≤ length w) where
 pub rows_more : (w : Work) (n : ℕ) (x : Bits 8) → n < length w → rows_of (set w n x) (n + 1) ≡ rows_of w n ++ (members x ∷ [])
 rows_more w n x lt = ap (map members) (take_more_set w n x lt) ∙ map-append members (take n w) (x ∷ [])
 
-pub stored_more : (w : Work) (n : ℕ) (x : Bits 8) → Stored w n → Whole 8 x.words → n < length w → Stored (set w n x) (n + 1)
-stored_more w n x s h lt = record {
-  room = omega (arith, length-set {A = Bits 8});
-  most = omega (arith, s.most, length-set {A = Bits 8});
-  whole = λ k b. elim (cases_eq k n) [
-    | inl e ↦ subst (λ (i : ℕ). Whole 8 (get_or (set w n x) i nil).words) (sym e) (rw get_or-set_same h)
-    | inr ne ↦ let other : k ≢ n = ne in rw get_or-set_other (s.whole k (omega arith))
-  ];
-}
+-- one more set, which is none of them
+module _ (w : Work) (n : ℕ) (x : Bits 8) (s : Stored w n) (h : Whole 8 x.words) (some : empty (members x) ≡ false) (fresh : finder.Fresh words_of w n x) (lt : n < length w) where
+  put : get_or (set w n x) n nil ≡ x
+  put = get_or-set_same w n x nil lt
+
+  still : (k : ℕ) → k < n → get_or (set w n x) k nil ≡ get_or w k nil
+  still k l = let other : k ≢ n = omega arith in get_or-set_other w n k x nil other
+
+  -- what holds of the sets and of x holds of all
+  all_more : (P : Bits 8 → Type 0) → ((k : ℕ) → k < n → P (get_or w k nil)) → P x → (k : ℕ) → k < n + 1 → P (get_or (set w n x) k nil)
+  all_more P old new k l = elim (cases_eq k n) [
+    | inl e ↦ subst (λ (i : ℕ). P (get_or (set w n x) i nil)) (sym e) (subst P (sym put) new)
+    | inr ne ↦ subst P (sym (still k (omega arith))) (old k (omega arith))
+  ]
+
+  apart_more : (j k : ℕ) → j < k → k < n + 1 → (get_or (set w n x) j nil).words ≢ (get_or (set w n x) k nil).words
+  apart_more j k less l = elim (cases_eq k n) [
+    | inl e ↦ λ q. fresh j nil (omega arith) (omega arith) (ap words_of (sym (still j (omega arith))) ∙ q ∙ ap (λ (i : ℕ). (get_or (set w n x) i nil).words) e ∙ ap words_of put)
+    | inr ne ↦ λ q. s.apart j k less (omega arith) (ap words_of (sym (still j (omega arith))) ∙ q ∙ ap words_of (still k (omega arith)))
+  ]
+
+  pub stored_more : Stored (set w n x) (n + 1)
+  stored_more = record {
+    room = omega (arith, length-set {A = Bits 8});
+    most = omega (arith, s.most, length-set {A = Bits 8});
+    whole = all_more (λ y. Whole 8 y.words) s.whole h;
+    filled = all_more (λ y. empty (members y) ≡ false) s.filled some;
+    apart = apart_more;
+  }
 
 -- the number of one that is new
 place_last : (rs : List Set) (s : Set) → stored rs s ≡ false → place (rs ++ (s ∷ [])) s ≡ suc (length rs)
@@ -113,13 +133,31 @@ module _ (w : Work) (n : ℕ) (x : Bits 8) (s : Stored w n) (h : Whole 8 x.words
         rows = rows_more w n x lt ∙ sym new;
         number = sym (ap (λ (rs : List Set). number rs (members x)) new ∙ number_placed (rows_of w n ++ (members x ∷ [])) (members x) e
             ∙ place_last (rows_of w n) (members x) no ∙ omega (arith, rows_length w n s.room));
-        stored = stored_more w n x s h lt;
+        stored = stored_more w n x s h e f lt;
       }
 
   pub met_full : empty (members x) ≡ false → n ≡ length w → finder.Fresh words_of w n x → length w < length (meet (rows_of w n) (members x))
   met_full e full f =
       let new : meet (rows_of w n) (members x) ≡ rows_of w n ++ (members x ∷ []) = meet_new (rows_of w n) (members x) e (fresh_new f) in
       omega (arith, ap length new, length-append (rows_of w n) (members x ∷ []), rows_length w n s.room)
+
+-- x is the same as one of the n sets
+module _ (w : Work) (n : ℕ) (x : Bits 8) (s : Stored w n) (k : ℕ) (lt : k < n) (same : (get_or w k nil).words ≡ x.words) where
+  is_first : finder.First words_of w n x k
+  is_first = (
+    lt,
+    λ d. ap words_of (get_or_default w k d nil (omega (arith, s.room))) ∙ same,
+    λ j d low less. λ q. s.apart j k less lt (ap words_of (get_or_default w j nil d (omega (arith, s.room))) ∙ q ∙ sym same),
+  )
+
+  pub met_same : MetAs (rows_of w n) (members x) w (record { number = k + 1; count = n })
+  met_same = met_old w n x s (subst (Whole 8) same (s.whole k lt)) k (subst (λ (ws : List ℕ). empty (has ws) ≡ false) same (s.filled k lt)) is_first
+
+-- as a guess answers
+pub met_guessed : (w : Work) (n m k : ℕ) (x : Bits 8) → Stored w n → m ≡ n → Guessed (take m w) x (Some k) → MetAs (rows_of w n) (members x) w (record { number = k + 1; count = n })
+met_guessed w n m k x s e g =
+    let lt : k < m = omega (arith, g.0, length-take m w) in
+    met_same w n x s k (omega arith) (ap words_of (sym (get_or-take m w k nil lt)) ∙ g.1)
 
 pub met_empty : (w : Work) (n : ℕ) (x : Set) → Stored w n → empty x ≡ true → MetAs (rows_of w n) x w (record { number = 0; count = n })
 met_empty w n x s e =

@@ -5,7 +5,7 @@ use Rattle.positions.specs.Memory.{Work}
 use Rattle.grammar.specs.File.{RuleText}
 use Rattle.table.specs.declared.loaded.Rule.{Rule}
 use Rattle.table.specs.declared.loaded.Loaded.{Loaded}
-use Rattle.loader.specs.Loaded.{RulesHold}
+use Rattle.loader.specs.Held.{RulesHold}
 use Rattle.automaton.specs.Sets.{Set}
 use Rattle.automaton.specs.Automaton.{trail_set}
 use Rattle.automaton.specs.Numbering.{number, meet, meet_all, trails}
@@ -26,7 +26,7 @@ with_trail r t = record { conditions = r.conditions; anchored = r.anchored; trai
 trail_held : (rs : List Rule) (qs : List RuleText) (i t : ℕ) (d : Rule) → RulesHold rs qs → i < length qs → RulesHold (set rs i (with_trail (get_or rs i d) t)) qs
 trail_held rs [] i t d h lt = absurd (omega arith)
 trail_held [] (q ∷ qs) i t d h lt = absurd h
-trail_held (r ∷ rs) (q ∷ qs) zero t d h lt = (record { active = h.0.active; anchored = h.0.anchored; steps = h.0.steps }, h.1)
+trail_held (r ∷ rs) (q ∷ qs) zero t d h lt = (record { active = h.0.active; whole = h.0.whole; anchored = h.0.anchored; steps = h.0.steps }, h.1)
 trail_held (r ∷ rs) (q ∷ qs) (suc i) t d h lt = (h.0, trail_held rs qs i t d h.1 (omega arith))
 
 -- the trail starts of the first i rules are written

@@ -1,16 +1,17 @@
 -- What the functions that build rows say.
-use Rattle.std.specs.Prelude.{◌≡◌, ℕ, suc, ◌<◌, ◌≤◌, Bool, true, false, List, [], map, length, replicate, take, Some, None, Option, slice_index, slice_index_or}
-use Rattle.bits.specs.Set.{Whole}
+use Rattle.std.specs.Prelude.{◌≡◌, ℕ, suc, ◌<◌, ◌≤◌, Bool, true, false, ◌≢◌, List, [], map, length, replicate, take, Some, None, Option, slice_index, slice_index_or}
+use Rattle.bits.specs.Set.{has, Whole}
+use Rattle.bits.specs.declared.Bits.{Bits}
 use Rattle.positions.specs.Memory.{Work}
 use Rattle.grammar.specs.File.{RuleText, RuleFile, all_positions}
 use Rattle.table.specs.declared.loaded.Row.{Row}
 use Rattle.table.specs.declared.loaded.StartRows.{StartRows}
 use Rattle.table.specs.declared.loaded.Loaded.{Loaded}
 use Rattle.table.specs.Zeros.{no_row}
-use Rattle.loader.specs.Loaded.{RulesHold}
-use Rattle.loader.specs.Loaded as rulefile
+use Rattle.loader.specs.Held.{RulesHold, RowHolds, HoldsRows as Holds}
+use Rattle.loader.specs.Held as rulefile
 use Rattle.loader.specs.Laid.{RulesLaid}
-use Rattle.automaton.specs.Sets.{Set}
+use Rattle.automaton.specs.Sets.{Set, empty}
 use Rattle.automaton.specs.Automaton.{start_set, trail_set, leads}
 use Rattle.automaton.specs.Numbering.{number, meet, meet_all, starts, trails, none, leads_from, grown}
 use Rattle.automaton.specs.Theorems.{Known}
@@ -18,18 +19,25 @@ use Rattle.table.specs.Memory.{row_at, rule_at, start_at, MarkedIn}
 use Rattle.loader.specs.declared.Met.{Met}
 use Rattle.loader.specs.declared.MetStart.{MetStart}
 use Rattle.loader.specs.declared.Lead.{Lead}
-use Rattle.loader.specs.Load.{RowHolds, start_of, trail_of, Holds, sets_of}
+use Rattle.loader.specs.Load.{start_of, trail_of, sets_of}
 use Rattle.loader.specs.Machine.{members, leads_in, live_in, behind_of}
 
 -- the first n sets, by their members
 abbrev pub rows_of : Work → ℕ → List Set
 rows_of w n = map members (take n w)
 
--- n sets are in use, each of eight words
+-- n sets are in use, each of eight words and with a member, and no two the same
 pub record Stored (w : Work) (n : ℕ) : Type 0 where
   pub room : n ≤ length w
   pub most : length w ≤ 1024
   pub whole : (k : ℕ) → k < n → Whole 8 (slice_index_or w k (record { words = [] })).words
+  pub filled : (k : ℕ) → k < n → empty (has (slice_index_or w k (record { words = [] })).words) ≡ false
+  pub apart : (j k : ℕ) → j < k → k < n → (slice_index_or w j (record { words = [] })).words ≢ (slice_index_or w k (record { words = [] })).words
+
+-- a set that is the same, if one is answered
+abbrev pub Guessed : Work → Bits 8 → Option ℕ → Type 0
+Guessed w s None = Unit {0}
+Guessed w s (Some k) = (k < length w) × ((slice_index_or w k (record { words = [] })).words ≡ s.words)
 
 -- the set s is met, and has its number among the rows
 pub record MetAs (rs : List Set) (s : Set) (w' : Work) (m : Met) : Type 0 where

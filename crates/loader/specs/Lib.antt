@@ -1,11 +1,12 @@
+pub mod Held
 pub mod Load
 pub mod Machine
 pub mod Building
-pub mod Determined
 pub mod Laid
 pub mod Lines
 pub mod Marks
 pub mod Loaded
+pub mod ReadRules
 pub mod Sections
 pub mod Shown
-pub mod TableLists
+pub mod Following

@@ -1,25 +1,30 @@
 -- What a rule file is loaded as, or why it is not.
-use Rattle.std.specs.Prelude.{◌≡◌, ℕ, ◌-◌, ◌<◌, ◌≤◌, Bool, true, false, cond, ◌&&◌, List, ◌++◌, map, length, replicate, Ok, Err, Result, IfOk, nat_le, slice_index, slice_index_or}
+use Rattle.std.specs.Prelude.{◌≡◌, ℕ, ◌-◌, ◌<◌, Bool, true, false, cond, ◌&&◌, List, ◌++◌, map, length, replicate, Ok, Err, Result, All, nat_le}
 use Rattle.std.specs.List.{range_with_len}
-use Rattle.bits.specs.Set.{bit}
+use Rattle.bits.specs.Set.{word}
 use Rattle.positions.specs.Memory.{Work}
 use Rattle.grammar.specs.declared.Fault.{Fault}
 use Rattle.grammar.specs.declared.Refusal.{Refusal}
-use Rattle.grammar.specs.declared.Refusal.TheVariants.{Memory, FileTooLong, Misfit, UnknownName, DeclaredAgain, OutOfBounds, LimitPassed, TooManyRows}
+use Rattle.grammar.specs.declared.Refusal.TheVariants.{Memory as TooLittle, FileTooLong, TooManyRows}
 use Rattle.grammar.specs.Outcome.{Out, refused, then}
 use Rattle.grammar.specs.File.{RuleText, RuleFile, rule_file_of}
 use Rattle.table.specs.declared.loaded.Row.{Row}
 use Rattle.table.specs.declared.loaded.StartRows.{StartRows}
 use Rattle.table.specs.declared.loaded.Loaded.{Loaded}
 use Rattle.table.specs.Zeros.{no_row, no_start, zeros}
-use Rattle.loader.specs.Loaded.{RulesHold, trails_of}
+use Rattle.table.specs.Memory.{Memory, memory, entries, IsTable}
+use Rattle.table.specs.Readings.{cut}
 use Rattle.automaton.specs.Sets.{Set}
 use Rattle.automaton.specs.Automaton.{start_set, trail_set, end_mark, slash_mark, leads, meets}
-use Rattle.automaton.specs.Numbering.{number, none, row_sets}
-use Rattle.table.specs.Memory.{row_at, IsTable}
+use Rattle.automaton.specs.Numbering.{number, row_sets}
+use Rattle.automaton.specs.Order.{InOrder}
+use Rattle.places.specs.Listing.{Place, Listing}
+use Rattle.scan.specs.Listing.{table_listing}
 use Rattle.loader.specs.declared.Sizes.{Sizes}
+use Rattle.loader.specs.Loaded.{rules_of}
 
--- the sets that the rows of a file stand for, in their order; more than `most` where that is not enough for them
+-- the sets that the rows of a file stand for, in their order; more than `most` where that is not
+-- enough for them
 abbrev pub sets_of : RuleFile → ℕ → List Set
 sets_of f most = row_sets f.rules (length f.conditions.names) most
 
@@ -27,79 +32,90 @@ sets_of f most = row_sets f.rules (length f.conditions.names) most
 abbrev pub enough : ℕ → ℕ → Bool
 enough rows sets = (nat_le 1 rows && nat_le rows 1024) && nat_le 4096 sets
 
+abbrev pub sizes_of : RuleFile → ℕ → Sizes
+sizes_of f rows = record {
+  rules = length f.rules;
+  conditions = length f.conditions.names;
+  rows = length (sets_of f rows);
+}
+
 -- a right file needs no more rows than there are
 abbrev pub fitted : List ℕ → ℕ → RuleFile → Out Sizes
 fitted file rows f =
-    cond (nat_le (length (sets_of f rows)) rows)
-    (Ok (record { rules = length f.rules; conditions = length f.conditions.names; rows = length (sets_of f rows) }))
-    (refused TooManyRows (length file))
+    cond (nat_le (length (sets_of f rows)) rows) (Ok (sizes_of f rows)) (refused TooManyRows (length file))
 
 abbrev pub outcome : List ℕ → ℕ → ℕ → Out Sizes
-outcome file rows sets = cond (enough rows sets) (then (rule_file_of file) (fitted file rows)) (refused Memory 0)
+outcome file rows sets =
+    cond (enough rows sets) (then (rule_file_of file) (fitted file rows)) (refused TooLittle 0)
 
--- a row that stands for the set s, among the rows rs: where each byte leads, and bit i for each mark of rule i + 1
-pub record RowHolds (qs : List RuleText) (rs : List Set) (s : Set) (r : Row) : Type 0 where
-  pub width : length r.next ≡ 256
-  pub next : (b : ℕ) → b < 256 → slice_index r.next b ≡ number rs (leads qs s b)
-  pub ends : (i : ℕ) → bit r.ends i ≡ meets s (end_mark qs 0 i)
-  pub slashes : (i : ℕ) → bit r.slashes i ≡ meets s (slash_mark qs 0 i)
+-- the row of the set s, among the rows rs: where each byte leads, and bit i for each mark of rule i + 1
+abbrev pub row_of : List RuleText → List Set → Set → Row
+row_of qs rs s = record {
+  next = entries (λ b. number rs (leads qs s b));
+  ends = word (λ i. meets s (end_mark qs 0 i));
+  slashes = word (λ i. meets s (slash_mark qs 0 i));
+}
 
--- the rows in their order, and zeros behind them
-pub record RowsHold (qs : List RuleText) (rs : List Set) (rows : List Row) : Type 0 where
-  pub each : (k : ℕ) → k < length rs → RowHolds qs rs (slice_index_or rs k none) (row_at rows k)
-  pub behind : (k : ℕ) → length rs ≤ k → k < length rows → row_at rows k ≡ no_row
+-- n rows of memory: the rows in their order, and zeros behind them
+abbrev pub all_rows : List RuleText → List Set → ℕ → List Row
+all_rows qs rs n = map (row_of qs rs) rs ++ replicate (n - length rs) no_row
+
+-- the numbers of the start rows of the condition c
+abbrev pub start_of : List RuleText → List Set → ℕ → StartRows
+start_of qs rs c = record {
+  inside = number rs (start_set qs 0 c false);
+  at_line_start = number rs (start_set qs 0 c true);
+}
+
+-- and of the row that the trailing part of rule i starts from; 0 where there is none
+abbrev pub trail_of : List RuleText → List Set → ℕ → ℕ
+trail_of qs rs i = number rs (trail_set qs 0 i)
 
 -- the first n of `all` places by a rule, and zeros behind them
 abbrev pub filled : {X : Type 0} → (ℕ → X) → ℕ → ℕ → X → List X
 filled at n all zero = map at (range_with_len 0 n) ++ replicate (all - n) zero
 
--- the numbers of the start rows of the condition c
-abbrev pub start_of : List RuleText → List Set → ℕ → StartRows
-start_of qs rs c = record { inside = number rs (start_set qs 0 c false); at_line_start = number rs (start_set qs 0 c true) }
+-- the loaded memory of the file f, whose rows stand for the sets rs
+abbrev pub loaded_of : RuleFile → List Set → Loaded
+loaded_of f rs = record {
+  rules = rules_of (trail_of f.rules rs) f.rules;
+  starts = filled (start_of f.rules rs) (length f.conditions.names) 8 no_start;
+  rule_count = length f.rules;
+  condition_count = length f.conditions.names;
+  row_count = length rs;
+}
 
-abbrev pub trail_of : List RuleText → List Set → ℕ → ℕ
-trail_of qs rs i = number rs (trail_set qs 0 i)
+-- what the file f is loaded as, in memory of n rows
+abbrev pub memory_with : RuleFile → ℕ → Memory
+memory_with f n = memory (loaded_of f (sets_of f n)) (all_rows f.rules (sets_of f n) n)
 
--- the loaded memory holds the file f, whose rows stand for the sets rs
-pub record Holds (f : RuleFile) (rs : List Set) (l : Loaded) (rows : List Row) : Type 0 where
-  pub rules : RulesHold l.rules f.rules
-  pub starts : l.starts ≡ filled (start_of f.rules rs) (length f.conditions.names) 8 no_start
-  pub trails : trails_of l ≡ filled (trail_of f.rules rs) (length f.rules) 64 0
-  pub rule_count : l.rule_count ≡ length f.rules
-  pub condition_count : l.condition_count ≡ length f.conditions.names
-  pub row_count : l.row_count ≡ length rs
-  pub rows_hold : RowsHold f.rules rs rows
+-- at every place the memory lists what the patterns of these rules allow
+abbrev pub Lists : List RuleText → Memory → Type 0
+Lists rules m = (p : Place) → All (λ b. b < 256) p.rest → Listing rules p (table_listing m p)
 
--- nothing is written
-pub record Untouched (l l' : Loaded) (rows rows' : List Row) (w w' : Work) : Type 0 where
-  pub loaded : l' ≡ l
-  pub all_rows : rows' ≡ rows
-  pub work : w' ≡ w
+-- the file is loaded into m', of n rows
+pub record Accepted (file : List ℕ) (n : ℕ) (m' : Memory) : Type 0 where
+  pub says : RuleFile
+  pub right : rule_file_of file ≡ Ok says
+  pub loaded : m' ≡ memory_with says n
+  -- the check before take up lets it pass, and the table that is taken up lists what is allowed
+  pub sound : IsTable m'
+  pub lists : Lists (says).rules (cut m')
+  pub in_order : InOrder (says).rules (length (says).conditions.names) (sets_of says n)
 
--- zeros are written
-pub record Cleared (l' : Loaded) (rows rows' : List Row) : Type 0 where
-  pub loaded : l' ≡ zeros
-  pub all_rows : rows' ≡ replicate (length rows) no_row
+-- a refusal for want of memory or for the file's length writes nothing; any other leaves zeros
+abbrev pub RefusalLeaves : {X : Type 0} → Refusal → X → X → X → Work → Work → Type 0
+RefusalLeaves TooLittle x x' z w w' = (x' ≡ x) × (w' ≡ w)
+RefusalLeaves FileTooLong x x' z w w' = (x' ≡ x) × (w' ≡ w)
+RefusalLeaves why x x' z w w' = x' ≡ z
 
--- what a refusal leaves in the memory
-abbrev pub RefusalLeaves : Refusal → Loaded → Loaded → List Row → List Row → Work → Work → Type 0
-RefusalLeaves Memory l l' rows rows' w w' = Untouched l l' rows rows' w w'
-RefusalLeaves FileTooLong l l' rows rows' w w' = Untouched l l' rows rows' w w'
-RefusalLeaves Misfit l l' rows rows' w w' = Cleared l' rows rows'
-RefusalLeaves UnknownName l l' rows rows' w w' = Cleared l' rows rows'
-RefusalLeaves DeclaredAgain l l' rows rows' w w' = Cleared l' rows rows'
-RefusalLeaves OutOfBounds l l' rows rows' w w' = Cleared l' rows rows'
-RefusalLeaves LimitPassed l l' rows rows' w w' = Cleared l' rows rows'
-RefusalLeaves TooManyRows l l' rows rows' w w' = Cleared l' rows rows'
+-- what Load leaves in the memory; after any other answer the work memory is free
+abbrev pub Leaves : List ℕ → Memory → Memory → Work → Work → Result Sizes Fault → Type 0
+Leaves file m m' w w' (Ok n) = Accepted file (length m.rows) m'
+Leaves file m m' w w' (Err e) =
+    RefusalLeaves e.refusal m m' (memory zeros (replicate (length m.rows) no_row)) w w'
 
--- what Load leaves there: of an accepted file, what it holds; the work memory is free
-abbrev pub Leaves : List ℕ → Loaded → Loaded → List Row → List Row → Work → Work → Result Sizes Fault → Type 0
-Leaves file l l' rows rows' w w' (Ok n) =
-    (f : RuleFile) × (rule_file_of file ≡ Ok f) × Holds f (sets_of f (length rows)) l' rows'
-Leaves file l l' rows rows' w w' (Err e) = RefusalLeaves e.refusal l l' rows rows' w w'
-
--- the answer, what it leaves, and that a loaded file passes the check before take up
-pub record Loads (file : List ℕ) (l l' : Loaded) (rows rows' : List Row) (w w' : Work) (r : Result Sizes Fault) : Type 0 where
-  pub answer : r ≡ outcome file (length rows) (length w)
-  pub leaves : Leaves file l l' rows rows' w w' r
-  pub passes : IfOk r (λ n. IsTable l' rows')
+-- the answer, and what it leaves
+pub record Loads (file : List ℕ) (m m' : Memory) (w w' : Work) (r : Result Sizes Fault) : Type 0 where
+  pub answer : r ≡ outcome file (length m.rows) (length w)
+  pub leaves : Leaves file m m' w w' r

@@ -1,33 +1,36 @@
--- What the loaded memory holds of a rule file.
-use Rattle.std.specs.Prelude.{◌≡◌, ℕ, List, [], ◌∷◌, map, length, replicate}
-use Rattle.bits.specs.Set.{has}
+-- What the loaded memory holds of a rule file before its rows are there.
+use Rattle.std.specs.Prelude.{ℕ, suc, ◌-◌, List, [], ◌∷◌, ◌++◌, length, replicate}
+use Rattle.bits.specs.Set.{words}
 use Rattle.actions.specs.Given.{padded}
 use Rattle.grammar.specs.File.{RuleText, RuleFile}
 use Rattle.table.specs.declared.loaded.Rule.{Rule}
 use Rattle.table.specs.declared.loaded.Loaded.{Loaded}
 use Rattle.table.specs.Zeros.{no_rule, zeros}
 
--- r is the rule q: None stands behind its steps
-pub record RuleHolds (r : Rule) (q : RuleText) : Type 0 where
-  pub active : (c : ℕ) → has r.conditions.words c ≡ q.active c
-  pub anchored : r.anchored ≡ q.anchored
-  pub steps : r.steps ≡ padded q.steps
+-- the rule q, whose trailing part starts from the row `trail`; None stands behind its steps
+abbrev pub rule_of : ℕ → RuleText → Rule
+rule_of trail q = record {
+  conditions = record { words = words 1 q.active };
+  anchored = q.anchored;
+  trail = trail;
+  steps = padded q.steps;
+}
 
--- the rules in their order, and zeros behind them
-abbrev pub RulesHold : List Rule → List RuleText → Type 0
-RulesHold rs [] = rs ≡ replicate (length rs) no_rule
-RulesHold [] (q ∷ qs) = ⊥
-RulesHold (r ∷ rs) (q ∷ qs) = RuleHolds r q × RulesHold rs qs
+-- rules from rule i on, where the trailing part of rule j starts from the row `trail j`
+abbrev pub rules_from : (ℕ → ℕ) → ℕ → List RuleText → List Rule
+rules_from trail i [] = []
+rules_from trail i (q ∷ qs) = rule_of (trail i) q ∷ rules_from trail (suc i) qs
 
--- the row that the trailing part of each rule starts from
-abbrev pub trails_of : Loaded → List ℕ
-trails_of l = map (λ (r : Rule). r.trail) l.rules
+-- the rules in their order, and zeros behind them, 64 in all
+abbrev pub rules_of : (ℕ → ℕ) → List RuleText → List Rule
+rules_of trail qs = rules_from trail 0 qs ++ replicate (64 - length qs) no_rule
 
--- start rows, trail starts and rows are for a later step
-pub record Holds (l : Loaded) (f : RuleFile) : Type 0 where
-  pub rules : RulesHold l.rules f.rules
-  pub rule_count : l.rule_count ≡ length f.rules
-  pub condition_count : l.condition_count ≡ length f.conditions.names
-  pub starts : l.starts ≡ zeros.starts
-  pub trails : trails_of l ≡ replicate 64 0
-  pub row_count : l.row_count ≡ 0
+-- a file that is read: start rows, trail starts and rows are for a later step
+abbrev pub read_of : RuleFile → Loaded
+read_of f = record {
+  rules = rules_of (λ i. 0) f.rules;
+  starts = zeros.starts;
+  rule_count = length f.rules;
+  condition_count = length f.conditions.names;
+  row_count = 0;
+}

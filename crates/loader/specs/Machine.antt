@@ -1,5 +1,5 @@
 -- The positions of a rule file in the work memory, seen as the automaton of its rules. The sets from 1,280 on hold, for each byte, the positions that take it.
-use Rattle.std.specs.Prelude.{◌≡◌, ℕ, zero, suc, ◌+◌, ◌<◌, Bool, false, not, ◌&&◌, ◌||◌, List, [], ◌∷◌, length}
+use Rattle.std.specs.Prelude.{◌≡◌, ℕ, zero, suc, ◌+◌, ◌<◌, ◌≤◌, Bool, false, not, ◌&&◌, ◌||◌, List, [], ◌∷◌, length, slice_index}
 use Rattle.bits.specs.declared.Bits.{Bits}
 use Rattle.bits.specs.Set.{has}
 use Rattle.patterns.specs.Positions.{first}
@@ -52,3 +52,8 @@ pub record Machine (m : Work) (n : ℕ) (qs : List RuleText) : Type 0 where
   pub trails : (i : ℕ) → i < n → set_at m (1088 + i) ≡ trail_set qs 0 i
   pub ends : (i : ℕ) → i < n → set_at m (1152 + i) ≡ end_mark qs 0 i
   pub slashes : (i : ℕ) → i < n → set_at m (1216 + i) ≡ slash_mark qs 0 i
+
+-- for each byte one that is not behind it and that the same positions take
+pub record Columns (m : Work) (cs : List ℕ) : Type 0 where
+  pub not_behind : (b : ℕ) → b < 256 → slice_index cs b ≤ b
+  pub same_takers : (b p : ℕ) → b < 256 → member m (1280 + slice_index cs b) p ≡ member m (1280 + b) p

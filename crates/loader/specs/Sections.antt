@@ -21,7 +21,7 @@ use Rattle.loader.specs.declared.rules.Counts.{Counts}
 use Rattle.loader.specs.Lines.{left}
 use Rattle.loader.specs.Marks.{gives}
 use Rattle.loader.specs.Laid.{PatternLaid, RulesLaid, RulesKept}
-use Rattle.loader.specs.Loaded.{RuleHolds, RulesHold, trails_of, Holds}
+use Rattle.loader.specs.Held.{RuleHolds, RulesHold, trails_of, Holds}
 
 -- blanks, at least one, and the action
 abbrev pub steps_behind : List ℕ → Conditions → ℕ → Out (List Step)

@@ -3,14 +3,15 @@
 
 ghost use Rattle.std.specs.Prelude.{◌≡◌, ℕ, ◌<◌, ◌≤◌, false, List, length, replicate, IfSome};
 ghost use Rattle.grammar.specs.File.{RuleText, RuleFile};
+ghost use Rattle.table.specs.Memory.{memory};
 ghost use Rattle.table.specs.Zeros.{no_row};
-ghost use Rattle.loader.specs.Loaded.{RulesHold};
+ghost use Rattle.loader.specs.Held.{RulesHold};
 ghost use Rattle.loader.specs.Load.{Loads, enough};
-ghost use Rattle.loader.specs.Machine.{members, Machine};
+ghost use Rattle.loader.specs.Machine.{members, Machine, Columns};
 ghost use Rattle.loader.specs.Building.{rows_of, Stored, Meets, Led, Leads, Enters, WritesRow, Grows, MeetsStart, OnlyStarts, WritesStarts, OnlyTrails, WritesTrails, Read, Builds};
-ghost use Rattle.loader.specs.Determined.{HoldingDetermines};
-ghost use Rattle.loader.specs.TableLists.{TablesFollow, TablesList};
+ghost use Rattle.loader.specs.Following.{TablesFollow};
 
+mod guesses;
 mod lines;
 mod machine;
 mod progress;
@@ -19,9 +20,10 @@ mod rules;
 use bits::{Bits, PositionSet};
 use finder::{Found, Full, find_or_add};
 use grammar::{Fault, Refusal, refused};
-use machine::{MACHINE_SETS, TAKERS, follow, marks, start_set, takers};
+use guesses::Guesses;
+use machine::{MACHINE_SETS, TAKERS, columns, follow, marks, start_set, takers};
 pub use rules::{Counts, FILE_BYTES, RULES, WORK_SETS, read_rules};
-use rules::{ENDS, SLASHES, TRAILS};
+use rules::{ENDS, SLASHES, TRAILS, lay_rules};
 use table::{Loaded, Row, StartRows};
 
 // The most rows that a file may have; their sets stand behind the machine in the work memory.
@@ -81,10 +83,34 @@ fn meet(sets: &mut [PositionSet], count: usize, set: &PositionSet) -> Option<Met
     }
 }
 
+// The same, where the guesses are asked first; what they lack is noted.
+fn meet_again(
+    sets: &mut [PositionSet],
+    count: usize,
+    guesses: &mut Guesses,
+    set: &PositionSet,
+) -> Option<Met>
+    requires { Stored sets.old count }
+    ensures { Meets (rows_of sets.old count) (members set.now) sets.new result }
+{
+    if let Some(k) = guesses.find(&sets[0..count], set) {
+        return Some(Met {
+            number: k as u16 + 1,
+            count,
+        });
+    }
+    let met = meet(sets, count, set)?;
+    if met.number > 0 {
+        guesses.note(set, met.number - 1);
+    }
+    Some(met)
+}
+
 // Where the byte b leads from the set, the byte before it being known: most bytes lead where that one did.
 fn lead_on(
     machine: &[PositionSet; MACHINE_SETS],
     sets: &mut [PositionSet],
+    guesses: &mut Guesses,
     previous: Lead,
     set: &PositionSet,
     b: usize,
@@ -98,7 +124,10 @@ fn lead_on(
     if live.same(&previous.live) {
         return Some(previous);
     }
-    let met = meet(sets, previous.count, &follow(machine, &live))?;
+    if live.is_empty() {
+        return Some(nowhere(previous.count));
+    }
+    let met = meet_again(sets, previous.count, guesses, &follow(machine, &live))?;
     Some(Lead {
         live,
         number: met.number,
@@ -124,17 +153,26 @@ fn enter(
     machine: &[PositionSet; MACHINE_SETS],
     sets: &mut [PositionSet],
     count: usize,
+    guesses: &mut Guesses,
+    columns: &[u8; 256],
     set: &PositionSet,
     next: &mut [u16; 256],
 ) -> Option<usize>
-    requires { Stored sets.old count }
+    requires stored { Stored sets.old count }
+    requires columns { Columns machine.now columns.now }
     ensures stored { IfSome result (λ n. Stored sets.new n) }
     ensures enters { (qs : List RuleText) (n : ℕ) → Machine machine.now n qs → Enters qs (rows_of sets.old count) (members set.now) sets.new next.new result }
 {
     let mut last = nowhere(count);
-    for (b, entry) in next.iter_mut().enumerate() {
-        last = lead_on(machine, sets, last, set, b)?;
-        *entry = last.number;
+    // By number, since an entry may be that of an earlier byte.
+    for b in 0..256 {
+        let column = columns[b] as usize;
+        if column < b {
+            next[b] = next[column];
+        } else {
+            last = lead_on(machine, sets, guesses, last, set, b)?;
+            next[b] = last.number;
+        }
     }
     Some(last.count)
 }
@@ -145,17 +183,20 @@ fn write_row(
     rules: usize,
     sets: &mut [PositionSet],
     count: usize,
+    guesses: &mut Guesses,
+    columns: &[u8; 256],
     set: &PositionSet,
     row: &mut Row,
 ) -> Option<usize>
     requires stored { Stored sets.old count }
     requires few { rules ≤ 64 }
+    requires columns { Columns machine.now columns.now }
     ensures stored { IfSome result (λ n. Stored sets.new n) }
     ensures writes { (qs : List RuleText) → Machine machine.now rules qs → WritesRow qs rules (rows_of sets.old count) (members set.now) sets.new row.new result }
 {
     row.ends = marks(machine, ENDS, rules, set);
     row.slashes = marks(machine, SLASHES, rules, set);
-    enter(machine, sets, count, set, &mut row.next)
+    enter(machine, sets, count, guesses, columns, set, &mut row.next)
 }
 
 // Writes the rows of all sets that are met, and of those that are met on the way.
@@ -172,12 +213,23 @@ fn grow(
     ensures stored { IfSome result (λ n. Stored sets.new n) }
     ensures grows { (qs : List RuleText) → Machine machine.now rules qs → Grows qs rules (rows_of sets.old count) sets.new rows.old rows.new result }
 {
+    let columns = columns(machine);
+    let mut guesses = Guesses::none();
     let mut count = count;
     let mut k = 0;
     // No `for`, as rows are added on the way.
     while k < count {
         let set = sets[k];
-        count = write_row(machine, rules, sets, count, &set, &mut rows[k])?;
+        count = write_row(
+            machine,
+            rules,
+            sets,
+            count,
+            &mut guesses,
+            &columns,
+            &set,
+            &mut rows[k],
+        )?;
         k += 1;
     }
     Some(count)
@@ -311,15 +363,17 @@ fn clear(rows: &mut [Row])
     rows.fill(Row::zeros());
 }
 
-// Loads a rule file: its rules and the rows of their positions. Refusals for want of memory and for the file's length write
-// nothing; any other leaves zeros in the loaded memory and in all rows.
+/// Loads a rule file: its rules, and the rows of their positions. It refuses as `read_rules` does, with `Refusal::Memory` also
+/// for no rows or for more than `MOST_ROWS`, and with `Refusal::TooManyRows` where the file needs more rows than there are.
+/// `Refusal::Memory` and `Refusal::FileTooLong` write nothing; any other refusal leaves zeros in the loaded memory and in
+/// all rows. After any answer but those two the work memory is free.
 pub fn load(
     file: &[u8],
     loaded: &mut Loaded,
     rows: &mut [Row],
     work: &mut [PositionSet],
 ) -> Result<Sizes, Fault>
-    ensures { Loads file.now loaded.old loaded.new rows.old rows.new work.old work.new result }
+    ensures { Loads file.now (memory loaded.old rows.old) (memory loaded.new rows.new) work.old work.new result }
 {
     if !is_enough(rows.len(), work.len()) {
         return Err(refused(Refusal::Memory, 0));
@@ -328,7 +382,7 @@ pub fn load(
         return Err(refused(Refusal::FileTooLong, 0));
     }
     clear(rows);
-    let counts = read_rules(file, loaded, work)?;
+    let counts = lay_rules(file, loaded, work)?;
     let Some(count) = build_in(work, counts.positions, loaded, rows) else {
         *loaded = Loaded::zeros();
         clear(rows);
@@ -341,17 +395,7 @@ pub fn load(
     })
 }
 
-// What holds a file is determined whole: every word of it.
-pub fn holding_determines()
-    ensures { HoldingDetermines }
-{}
-
-// Theorem: what the table of a loaded rule file lists is what its patterns allow.
-pub fn tables_list()
-    ensures { TablesList }
-{}
-
-// Theorem: after bytes, a loaded table is in the row of the positions that they lead to.
+/// Theorem: after bytes, a loaded table stands at the row of the positions that they lead to.
 pub fn tables_follow()
     ensures { TablesFollow }
 {}

@@ -3,13 +3,14 @@ ghost use Rattle.std.specs.Prelude.{◌≡◌, ℕ, ◌+◌, ◌-◌, ◌^◌, �
 ghost use Rattle.bits.specs.Set.{bit, has, Whole};
 ghost use Rattle.positions.specs.Memory.{member, between};
 ghost use Rattle.grammar.specs.File.{RuleText, all_positions};
-ghost use Rattle.loader.specs.Loaded.{RulesHold};
+ghost use Rattle.loader.specs.Held.{RulesHold};
 ghost use Rattle.loader.specs.Laid.{RulesLaid};
 ghost use Rattle.automaton.specs.Automaton.{start_set as start_of, meets};
-ghost use Rattle.loader.specs.Machine.{members, set_at, behind_of, live_at, start_in, Machine};
+ghost use Rattle.loader.specs.Machine.{members, set_at, behind_of, live_at, start_in, Machine, Columns};
 
 use crate::rules::FIRSTS;
 use bits::{Bits, PositionSet};
+use finder::find;
 use positions::POSITIONS;
 use table::{Loaded, Rule};
 
@@ -43,6 +44,19 @@ pub(crate) fn takers(machine: &mut [PositionSet; MACHINE_SETS], positions: usize
     for b in 0..256 {
         machine[TAKERS + b] = takers_of(machine, positions, b);
     }
+}
+
+// For each byte the first byte that the same positions take, which may be itself. From any set both lead to the same row.
+pub(crate) fn columns(machine: &[PositionSet; MACHINE_SETS]) -> [u8; 256]
+    ensures { Columns machine.now result }
+{
+    let takers = &machine[TAKERS..TAKERS + 256];
+    let mut columns = [0; 256];
+    // By number, since a byte is the number of its takers.
+    for b in 0..256 {
+        columns[b] = find(&takers[0..b], &takers[b]).unwrap_or(b) as u8;
+    }
+    columns
 }
 
 // Whether the rule is active in the condition, and its `^` is met.
@@ -79,14 +93,7 @@ pub(crate) fn follow(machine: &[PositionSet; MACHINE_SETS], live: &PositionSet) 
     ensures members { (t : ℕ) → has result.words t ≡ behind_of machine.now (members live.now) t }
     ensures whole { Whole 8 result.words }
 {
-    let mut set = Bits::empty();
-    let mut from = 0;
-    // A word at a time, as most sets have few members.
-    while let Some(p) = live.next(from) {
-        set = set.either(&machine[POSITIONS + p]);
-        from = p + 1;
-    }
-    set
+    live.union_of(&machine[POSITIONS..POSITIONS + POSITIONS])
 }
 
 // Whether some position is in both. It is no `meets` of theirs, whose contract doesn't say that what is in both lies below

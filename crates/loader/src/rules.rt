@@ -13,6 +13,7 @@ ghost use Rattle.grammar.specs.Bytes.{stands as stands_at};
 ghost use Rattle.grammar.specs.Expressions.{alternation_at};
 ghost use Rattle.grammar.specs.File.{newline as newline_of, trailing_at, pattern_at, starts_rule, behind_active, rule_line};
 ghost use Rattle.loader.specs.Marks.{Unjoined, MarkedGives, Keeps, Joined, TrailingGives, PatternGives};
+ghost use Rattle.loader.specs.ReadRules.{ReadsRules};
 ghost use Rattle.loader.specs.Sections.{steps_behind, LineGives, FirstGives, Adds, Goes, FileReads, Answers};
 ghost use Rattle.loader.specs.Shown.{shown};
 
@@ -267,9 +268,11 @@ fn rule_body(
     let Read { value: used, next } = pattern_at(s, past_anchor(s, active.next), place, work)?;
     let action = steps_behind(s, next, conditions)?;
     let steps = action.list;
+    // `either` promises words of 64 bits, which nothing does of a set that is lent.
+    let whole = active.value.either(&active.value);
     Ok(RuleRead {
         rule: Rule {
-            conditions: active.value,
+            conditions: whole,
             anchored,
             trail: 0,
             steps,
@@ -376,9 +379,8 @@ fn sections(
     })
 }
 
-// Reads a rule file into the loaded memory, and its positions into the work memory. Refusals for want of memory and for
-// the file's length write nothing; any other leaves the loaded memory zeros.
-pub fn read_rules(
+// Reads a rule file into the loaded memory, and lays its positions down in the work memory.
+pub(crate) fn lay_rules(
     file: &[u8],
     loaded: &mut Loaded,
     work: &mut [PositionSet],
@@ -397,4 +399,18 @@ pub fn read_rules(
         *loaded = Loaded::zeros();
     }
     read
+}
+
+/// Reads a rule file into the loaded memory, without rows. It refuses with `Refusal::Memory` where there are fewer than
+/// `WORK_SETS` sets to work in, with `Refusal::FileTooLong` where there are more than `FILE_BYTES` bytes, and with the first
+/// fault of the file: `Refusal::Misfit`, `Refusal::UnknownName`, `Refusal::DeclaredAgain`, `Refusal::OutOfBounds` or
+/// `Refusal::LimitPassed`. The first two write nothing; any other leaves the loaded memory zeros, and the work memory free.
+pub fn read_rules(
+    file: &[u8],
+    loaded: &mut Loaded,
+    work: &mut [PositionSet],
+) -> Result<Counts, Fault>
+    ensures { ReadsRules file.now loaded.old loaded.new work.old work.new result }
+{
+    lay_rules(file, loaded, work)
 }

@@ -3,7 +3,7 @@ use Rattle.std.proofs.Common.{◌≡◌, ℕ, ◌+◌, ◌-◌, ◌<◌, ◌≤�
 use lib.Seq.{take-add}
 use Rattle.std.proofs.lemmas.List.{take_more}
 use Rattle.std.proofs.lemmas.Option.{slice_get-get_or}
-use Rattle.table.specs.declared.loaded.Row.{Row}
+use Rattle.table.specs.Memory.{Memory}
 use Rattle.bits.specs.Set.{bit}
 use Rattle.bits.proofs.Words.{bit_zero}
 use Rattle.table.specs.Readings.{next_row, end_marks, slash_marks}
@@ -15,42 +15,38 @@ seen rest k h =
     slice_get-get_or (take (seen_of rest) rest) k 0 (omega (arith, length-take (seen_of rest) rest))
     ∙ ap Some (get_or-take (seen_of rest) rest k 0 h)
 
-module _ (rows : List Row) where
-  row_append : (q : ℕ) (s t : List ℕ) → row_after rows q (s ++ t) ≡ row_after rows (row_after rows q s) t
+module _ (mem : Memory) where
+  pub row_append : (q : ℕ) (s t : List ℕ) → row_after mem q (s ++ t) ≡ row_after mem (row_after mem q s) t
   row_append q [] t = refl
-  row_append q (b ∷ s) t = row_append (next_row rows q b) s t
+  row_append q (b ∷ s) t = row_append (next_row mem q b) s t
 
-  pub row_zero : (s : List ℕ) → row_after rows 0 s ≡ 0
+  pub row_zero : (s : List ℕ) → row_after mem 0 s ≡ 0
   row_zero [] = refl
   row_zero (b ∷ s) = row_zero s
 
   -- one byte more of a text
-  pub row_more : (q : ℕ) (rest : List ℕ) (k r t : ℕ) → k < length rest → r ≡ row_after rows q (take k rest) → t ≡ next_row rows r (get_or rest k 0) → t ≡ row_after rows q (take (k + 1) rest)
+  pub row_more : (q : ℕ) (rest : List ℕ) (k r t : ℕ) → k < length rest → r ≡ row_after mem q (take k rest) → t ≡ next_row mem r (get_or rest k 0) → t ≡ row_after mem q (take (k + 1) rest)
   row_more q rest k r t h e f =
-      f ∙ ap (λ o. next_row rows o (get_or rest k 0)) e
-      ∙ sym (ap (row_after rows q) (take_more rest k 0 h) ∙ row_append q (take k rest) (get_or rest k 0 ∷ []))
+      f ∙ ap (λ o. next_row mem o (get_or rest k 0)) e
+      ∙ sym (ap (row_after mem q) (take_more rest k 0 h) ∙ row_append q (take k rest) (get_or rest k 0 ∷ []))
 
   -- from row 0 nothing goes on
-  pub row_dead : (q : ℕ) (rest : List ℕ) (k n : ℕ) → k ≤ n → row_after rows q (take k rest) ≡ 0 → row_after rows q (take n rest) ≡ 0
+  pub row_dead : (q : ℕ) (rest : List ℕ) (k n : ℕ) → k ≤ n → row_after mem q (take k rest) ≡ 0 → row_after mem q (take n rest) ≡ 0
   row_dead q rest k n h e =
       let far : n ≡ k + (n - k) = omega arith in
       let more : List ℕ = take (n - k) (drop k rest) in
-      ap (λ m. row_after rows q (take m rest)) far ∙ ap (row_after rows q) (take-add k (n - k) rest)
-      ∙ row_append q (take k rest) more ∙ ap (λ r. row_after rows r more) e ∙ row_zero more
+      ap (λ m. row_after mem q (take m rest)) far ∙ ap (row_after mem q) (take-add k (n - k) rest)
+      ∙ row_append q (take k rest) more ∙ ap (λ r. row_after mem r more) e ∙ row_zero more
 
   -- one byte less of those from k to n, where t is the row that it leads to
-  pub row_less : (q : ℕ) (rest : List ℕ) (k n t r : ℕ) → k < n → n ≤ length rest → t ≡ next_row rows q (get_or rest k 0) → row_after rows q (drop k (take n rest)) ≡ r → row_after rows t (drop (k + 1) (take n rest)) ≡ r
+  pub row_less : (q : ℕ) (rest : List ℕ) (k n t r : ℕ) → k < n → n ≤ length rest → t ≡ next_row mem q (get_or rest k 0) → row_after mem q (drop k (take n rest)) ≡ r → row_after mem t (drop (k + 1) (take n rest)) ≡ r
   row_less q rest k n t r h l e f =
       let within : k < length (take n rest) = omega (arith, length-take n rest) in
-      let less : row_after rows q (drop k (take n rest)) ≡ row_after rows (next_row rows q (get_or rest k 0)) (drop (k + 1) (take n rest)) = rw (add-one, drop-cons (take n rest) k 0 within, get_or-take n rest k 0 h) in
-      ap (λ o. row_after rows o (drop (k + 1) (take n rest))) e ∙ sym less ∙ f
+      let less : row_after mem q (drop k (take n rest)) ≡ row_after mem (next_row mem q (get_or rest k 0)) (drop (k + 1) (take n rest)) = rw (add-one, drop-cons (take n rest) k 0 within, get_or-take n rest k 0 h) in
+      ap (λ o. row_after mem o (drop (k + 1) (take n rest))) e ∙ sym less ∙ f
 
   -- row 0 has no mark, nor has a row that it leads to
-  pub unmarked_from_zero : (q : ℕ) (s : List ℕ) (r i : ℕ) → q ≡ 0 → row_after rows q s ≡ r → bit (end_marks rows r) i ≡ false
+  pub unmarked_from_zero : (q : ℕ) (s : List ℕ) (r i : ℕ) → q ≡ 0 → row_after mem q s ≡ r → bit (end_marks mem r) i ≡ false
   unmarked_from_zero q s r i z e =
-      let dead : r ≡ 0 = sym e ∙ ap (λ k. row_after rows k s) z ∙ row_zero s in
-      ap (λ k. bit (end_marks rows k) i) dead ∙ bit_zero i
-
-  -- a mark in the slash marks m of a row r that is known
-  pub slash_at : (q : ℕ) (s : List ℕ) (i r m : ℕ) (b : Bool) → b ≡ bit m i → m ≡ slash_marks rows r → r ≡ row_after rows q s → b ≡ bit (slash_marks rows (row_after rows q s)) i
-  slash_at q s i r m b e f h = e ∙ ap (λ o. bit o i) (f ∙ ap (slash_marks rows) h)
+      let dead : r ≡ 0 = sym e ∙ ap (λ k. row_after mem k s) z ∙ row_zero s in
+      ap (λ k. bit (end_marks mem k) i) dead ∙ bit_zero i

@@ -1,0 +1,48 @@
+-- What a trace stands for.
+use Rattle.std.specs.Prelude.{◌≡◌, ℕ, List, Option, IfSome}
+use Rattle.std.specs.Option.{option_map}
+use Rattle.table.specs.Memory.{Memory}
+use Rattle.table.specs.Held.{memory_of}
+use Rattle.source.specs.declared.Source.{Ghosts}
+use Rattle.places.specs.declared.Reading.{Reading}
+use Rattle.places.specs.Listing.{Place}
+use Rattle.scan.specs.declared.trace.Trace.{Trace}
+use Rattle.scan.specs.declared.ending.Ending.{Ending}
+use Rattle.scan.specs.declared.trails.Trails.{Trails}
+use Rattle.scan.specs.Listing.{place_of, head_of, reading}
+use Rattle.scan.specs.Trails.{AreTrails, AreMoving}
+use Rattle.scan.specs.declared.told.RuleHeads.{RuleHeads}
+use Rattle.scan.specs.Told.{Told}
+
+module _ {S : Type 0} {g : Ghosts S} where
+  -- what its table holds, and the place where it begins
+  abbrev pub memory_in : Trace S g → Memory
+  memory_in t = memory_of t.table.now
+
+  abbrev pub place_in : Trace S g → Place
+  place_in t = place_of t.start (g.rest t.source.now)
+
+  -- the head that rule i has there with total n
+  abbrev pub head_in : Trace S g → ℕ → ℕ → ℕ
+  head_in t n i = head_of (memory_in t) (place_in t) n i
+
+  -- the reading that ends there
+  abbrev pub ends_with : Ending S g → Reading
+  ends_with e = reading (memory_in e.trace.now) (place_in e.trace.now) e.total e.rule
+
+  -- r is where the reading d ends in the trace t
+  abbrev pub EndsIn : Trace S g → Option Reading → Option (Ending S g) → Type 0
+  EndsIn t d r = (option_map ends_with r ≡ d) × IfSome r (λ e. e.trace.now ≡ t)
+
+  -- work memory holds the trails of rule i after n bytes, from `from` up to `to`
+  abbrev pub TrailsIn : Trace S g → ℕ → ℕ → ℕ → ℕ → Trails → Type 0
+  TrailsIn t i n from to w = AreTrails (memory_in t) (place_in t) i n from to w.rows w.heads
+
+  -- those up to `at` have moved by one byte more, those from j on have not
+  abbrev pub MovingIn : Trace S g → ℕ → ℕ → ℕ → ℕ → ℕ → ℕ → Trails → Type 0
+  MovingIn t i n from at j to w =
+      AreMoving (memory_in t) (place_in t) i n from at j to w.rows w.heads
+
+  -- the heads of these rules are told
+  abbrev pub ToldIn : Trace S g → List RuleHeads → List ℕ → Type 0
+  ToldIn t hs told = Told (memory_in t) (place_in t) t.live hs told
