@@ -29,7 +29,8 @@ impl<S: Source> Pushback<S> {
     pub fn into_below(self) -> S
         ensures { result ≡ self.below }
     {
-        self.below
+        let Pushback { below, .. } = self;
+        below
     }
 }
 
