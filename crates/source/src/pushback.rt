@@ -4,11 +4,13 @@ ghost use Rattle.std.proofs.Common.{arith};
 
 mod reading;
 
+const MOST: usize = 256;
+
 // The returned bytes, the latest first, are the last `count` of the row: so a byte that is put back
 // moves none.
 #[derive(Drop)]
 struct Returned {
-    bytes: [u8; 256],
+    bytes: [u8; MOST],
     count: usize,
     ghost within: { count ≤ 256 },
     ghost whole: { length bytes ≡ 256 },

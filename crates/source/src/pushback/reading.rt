@@ -4,10 +4,8 @@ ghost use Rattle.std.proofs.Common.{arith};
 ghost use Rattle.source.specs.Pushback.{rest_with, slack_of};
 ghost use Rattle.source.specs.Pushback.{slack_within, slack_supplied, small_with};
 
-use crate::pushback::{Pushback, Returned};
+use crate::pushback::{MOST, Pushback, Returned};
 use crate::{REACH, Source, SourceFault};
-
-const MOST: usize = 256;
 
 impl<S: Source> Pushback<S> {
     /// The source, with nothing put back.
@@ -29,7 +27,8 @@ impl<S: Source> Pushback<S> {
     pub fn into_below(self) -> S
         ensures { result ≡ self.below }
     {
-        self.below
+        let Pushback { below, .. } = self;
+        below
     }
 }
 
