@@ -1,4 +1,4 @@
-// Listings and books, worked out: theorems apart from `places` and `plain`, since they compute long.
+// Listings and books, worked out: theorems apart from `places` and `plain`, as they compute long.
 #![tactic(auto)]
 
 ghost use Rattle.examples.specs.Worked.{ListingsWorked, OthersNotListed};

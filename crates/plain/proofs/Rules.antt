@@ -102,7 +102,7 @@ module _ (conditions capacity : ℕ) (listing other : Place → List Reading) (s
     taken_bytes n kept = All-drop (λ x. x < 256) n b.place.rest bytes
 
     idle_bytes : (line : Line) → PutsBytes line → Leaves (idle one b line)
-    idle_bytes Next puts = offered_bytes 21 [] (first_of (listing b.place))
+    idle_bytes Next puts = offered_bytes 21 [] _
     idle_bytes Reject puts = bytes
     idle_bytes Accept puts = bytes
     idle_bytes (Keep n) puts = bytes
@@ -112,7 +112,7 @@ module _ (conditions capacity : ℕ) (listing other : Place → List Reading) (s
 
     holding_bytes : (d : Reading) (line : Line) → Leaves (holding one b d line)
     holding_bytes d Next = bytes
-    holding_bytes d Reject = offered_bytes 22 b.offered (next_of d.rule d.total (listing b.place))
+    holding_bytes d Reject = offered_bytes 22 b.offered _
     holding_bytes d Accept = taken_bytes d.head 0
     holding_bytes d (Keep n) = by_test Leaves (nat_lt b.kept n && nat_le n (b.kept + d.head)) (takes one (n - b.kept) 0 b) (denied 23 b) (λ e. taken_bytes (n - b.kept) 0) bytes
     holding_bytes d Extend = by_test Leaves (nat_le (b.kept + d.head) 3072) (takes one d.head (b.kept + d.head) b) (denied 24 b) (λ e. taken_bytes d.head (b.kept + d.head)) bytes

@@ -2,7 +2,6 @@
 use Rattle.std.proofs.Common.{◌≡◌, ℕ, suc, ◌+◌, ◌-◌, Bool, true, false, ◌&&◌, List, [], ◌∷◌, if◌then◌else◌, nat_lt, nat_le, Some, None, Option, refl, sym, ap, subst, arith}
 use lib.Seq.{paste}
 use Rattle.places.specs.declared.Reading.{Reading}
-use Rattle.places.specs.Order.{first_of, next_of}
 use Rattle.plain.specs.declared.Line.{Line}
 use Rattle.plain.specs.declared.Line.TheVariants.{Next, Reject, Accept, Keep, Extend, Begin, PutBack}
 use Rattle.plain.specs.Book.{World, Plain, Turn, opened, denied, offers, takes, begins, puts_back, idle, holding, turn_with, turn, after, answers}
@@ -40,7 +39,7 @@ module _ (w : World) (supplied : List ℕ) (slack : ℕ) where
     reject_tells (Some reading) = refl
 
     idle_tells : (line : Line) → Tells line (idle w (book_by es) line)
-    idle_tells Next = next_tells (first_of (w.listing (place_told supplied es)))
+    idle_tells Next = next_tells _
     idle_tells Reject = refl
     idle_tells Accept = refl
     idle_tells (Keep n) = refl
@@ -50,7 +49,7 @@ module _ (w : World) (supplied : List ℕ) (slack : ℕ) where
 
     holding_tells : (d : Reading) (line : Line) → Tells line (holding w (book_by es) d line)
     holding_tells d Next = refl
-    holding_tells d Reject = reject_tells (next_of d.rule d.total (w.listing (place_told supplied es)))
+    holding_tells d Reject = reject_tells _
     holding_tells d Accept = refl
     holding_tells d (Keep n) =
         let b = book_by es in
@@ -92,7 +91,7 @@ module _ (w : World) (supplied : List ℕ) (slack : ℕ) where
     reject_copies (Some d) strip = ap (λ k. paste strip k (place_told supplied es).rest d.head) (kept_of (book_by es).kept d.head)
 
     idle_copies : (line : Line) → Copies line (idle w (book_by es) line)
-    idle_copies Next = next_copies (first_of (w.listing (place_told supplied es)))
+    idle_copies Next = next_copies _
     idle_copies Reject = λ strip. refl
     idle_copies Accept = λ strip. refl
     idle_copies (Keep n) = λ strip. refl
@@ -102,7 +101,7 @@ module _ (w : World) (supplied : List ℕ) (slack : ℕ) where
 
     holding_copies : (d : Reading) (line : Line) → Copies line (holding w (book_by es) d line)
     holding_copies d Next = λ strip. refl
-    holding_copies d Reject = reject_copies (next_of d.rule d.total (w.listing (place_told supplied es)))
+    holding_copies d Reject = reject_copies _
     holding_copies d Accept = λ strip. refl
     holding_copies d (Keep n) =
         let b = book_by es in

@@ -8,8 +8,8 @@ use Rattle.plain.specs.declared.Line.{Line}
 use Rattle.plain.specs.declared.Line.TheVariants.{Next, Reject, Accept, Keep, Extend, Begin, PutBack}
 use Rattle.plain.specs.declared.Answer.{Answer}
 
--- what a book stands on: how many conditions there are, how many bytes the source takes back at most,
--- and what is listed at each place
+-- what a book stands on: how many conditions there are, how many bytes the source takes back at
+-- most, and what is listed at each place
 pub record World : Type 0 where
   pub conditions : ℕ
   pub capacity : ℕ
@@ -43,7 +43,8 @@ answer number taken =
 abbrev pub denied : ℕ → Plain → Turn
 denied number book = record { answer = answer number 0; book = book }
 
--- the reading found is offered behind the earlier ones; where there is none, the number is the refusal
+-- the reading found is offered behind the earlier ones; where there is none, the line is refused
+-- with this number
 abbrev pub offers : ℕ → List Reading → Option Reading → Plain → Turn
 offers number earlier None book = denied number book
 offers number earlier (Some reading) book = record {

@@ -1,5 +1,5 @@
--- The laws of a transcript, by which list of readings is the listing at a place, and by the bytes that
--- were supplied at opening.
+-- The laws of a transcript, by which list of readings is the listing at a place, and by the bytes
+-- that were supplied at opening.
 use Rattle.std.specs.Prelude.{◌≡◌, ◌≢◌, ℕ, ◌+◌, ◌≤◌, List, [], ◌∷◌, ◌++◌, length, take, drop, Some, None, All, AllPairs}
 use Rattle.places.specs.declared.Reading.{Reading}
 use Rattle.places.specs.Listing.{Place}
@@ -15,7 +15,8 @@ pub record MayTake (rest : List ℕ) (n : ℕ) : Type 0 where
 module _ (IsListingAt : Place → List Reading → Type 0) (supplied : List ℕ) where
   -- at each moment
   pub record HoldsAfter (entries : List Entry) : Type 0 where
-    -- the readings offered since the last granted next are the first ones of the listing at its place
+    -- the readings offered since the last granted next are the first ones of the listing at its
+    -- place, in its order
     pub in_order :
         (listing : List Reading) → IsListingAt (place_of_next supplied entries) listing →
         offered entries ≡ take (length (offered entries)) listing

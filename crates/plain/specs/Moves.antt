@@ -7,7 +7,8 @@ use Rattle.places.specs.Listing.{Place}
 abbrev pub opening : List ℕ → Place
 opening supplied = record { condition = 0; at_line_start = true; rest = supplied }
 
--- behind the first n bytes, of which there is at least one: at line start exactly if the last is a newline
+-- behind the first n bytes, of which there is at least one: at line start exactly if the last is a
+-- newline
 abbrev pub behind : ℕ → Place → Place
 behind n place = record {
   condition = place.condition;

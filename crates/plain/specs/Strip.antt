@@ -1,12 +1,13 @@
--- The strip: the caller's memory into which each granted next and reject copies the head that it offers,
--- from the kept bytes on, and no other byte.
+-- The strip: the caller's memory into which each granted next and reject copies the head that it
+-- offers, behind the kept bytes, and no other byte.
 use Rattle.std.specs.Prelude.{ℕ, ◌-◌, List, [], ◌∷◌}
 use lib.Seq.{paste}
 use Rattle.plain.specs.declared.Line.{Line}
 use Rattle.plain.specs.Book.{World, Plain, turn}
 use Rattle.plain.specs.Transcript.{Entry, Deed, First, Following, deed, place_told}
 
--- what a line leaves of the strip: from so many bytes on stands the head, the first bytes of the rest
+-- what a line leaves in the strip: behind so many bytes stands the head, the first bytes of the
+-- rest
 abbrev pub copied : Deed → ℕ → List ℕ → List ℕ → List ℕ
 copied (First reading) kept rest strip = paste strip kept rest reading.head
 copied (Following reading) kept rest strip = paste strip kept rest reading.head

@@ -3,8 +3,9 @@
 
 ghost use Rattle.plain.specs.Theorems.{BookIsTold, StripIsTold, BookIsLawful, RulesBookIsLawful, NeverPastEnd, OneBook, RulesListRight};
 
-// What a reader is told: to offer the first reading, or the following one; to take the head of the one in hand, or to take it
-// up to so many bytes of the text, or to take it and keep it; to go to a condition; to put a byte back.
+// What a book is told: to offer the first reading or the following one; to take the head of the one
+// in hand, to take as much of it as makes so many bytes with those kept, or to take and keep it; to
+// go to a condition; to put a byte back.
 #[derive(Clone, Copy, PartialEq, Eq)]
 pub enum Line {
     Next,
@@ -16,8 +17,9 @@ pub enum Line {
     PutBack(u8),
 }
 
-// The number is 0 if the line is granted, and else that of the refusal. Next and reject give the reading, and yyleng: how many
-// bytes are kept, with its head. `taken` is how many bytes the line took. What a line does not give is 0.
+// The number is 0 if the line is granted, and else that of the refusal. Next and reject give the
+// reading, and yyleng: how many bytes are kept, with its head. `taken` is how many bytes the line
+// took. What a line does not give is 0.
 #[derive(Clone, Copy, PartialEq, Eq)]
 pub struct Answer {
     pub number: usize,
