@@ -44,26 +44,26 @@ module _ (m : Memory) (p : Place) where
       let listing = table_lists m p in
       let none : table_listing m p ≡ [] = none_found (table_listing m p) e in
       no_more p.rest listing.readings (sym listing.whole ∙ none)
-      where
-        no_more : (rest : List ℕ) (xs : List Reading) → xs ++ last_resort rest ≡ [] → rest ≡ []
-        no_more [] xs e = refl
-        no_more (b ∷ rest) [] e = absurd (cc)
-        no_more (b ∷ rest) (x ∷ xs) e = absurd (cc)
+    where
+      no_more : (rest : List ℕ) (xs : List Reading) → xs ++ last_resort rest ≡ [] → rest ≡ []
+      no_more [] xs e = refl
+      no_more (b ∷ rest) [] e = absurd (cc)
+      no_more (b ∷ rest) (x ∷ xs) e = absurd (cc)
 
   pub none_listed : p.rest ≡ [] → first_of (table_listing m p) ≡ None
   none_listed e =
       let listing = table_lists m p in
       ap first_of listing.whole ∙ none p.rest listing.readings e listing.right
-      where
-        none :
-            (rest : List ℕ) (xs : List Reading) → rest ≡ [] → All (TableListed m p) xs →
-            first_of (xs ++ last_resort rest) ≡ None
-        none [] [] empty right = refl
-        none (b ∷ rest) xs empty right = absurd (cc)
-        none [] (x ∷ xs) empty right =
-            let t = right zero x (omega arith) in
-            let short : length p.rest ≡ 0 = ap length e in
-            absurd (omega (arith, t.some, t.within))
+    where
+      none :
+          (rest : List ℕ) (xs : List Reading) → rest ≡ [] → All (TableListed m p) xs →
+          first_of (xs ++ last_resort rest) ≡ None
+      none [] [] empty right = refl
+      none (b ∷ rest) xs empty right = absurd (cc)
+      none [] (x ∷ xs) empty right =
+          let t = right zero x (omega arith) in
+          let short : length p.rest ≡ 0 = ap length e in
+          absurd (omega (arith, t.some, t.within))
 
   pub first_right :
       (o : Option Reading) → o ≡ first_of (table_listing m p) →

@@ -12,13 +12,9 @@ use table::Table;
 
 // The first that is listed; there is none exactly where nothing is left.
 pub(crate) fn first<S: Source>(table: &Table, start: Start, source: &S) -> Option<Reading>
-    ensures listed {
-        let place = place_of start (S.rest source.now) in
-        result ≡ first_of (table_listing (memory_of table.now) place)
-    }
-    ensures right {
-        MatchOption result (S.rest source.now ≡ []) (λ reading. MayTake (S.rest source.now) reading.head)
-    }
+    ensures listed { let place = place_of start (S.rest source.now) in
+        result ≡ first_of (table_listing (memory_of table.now) place) }
+    ensures right { MatchOption result (S.rest source.now ≡ []) (λ reading. MayTake (S.rest source.now) reading.head) }
 {
     first_reading(table, start, source)
 }
@@ -30,10 +26,8 @@ pub(crate) fn following<S: Source>(
     source: &S,
     reading: Reading,
 ) -> Option<Reading>
-    ensures listed {
-        let place = place_of start (S.rest source.now) in
-        result ≡ next_of reading.rule reading.total (table_listing (memory_of table.now) place)
-    }
+    ensures listed { let place = place_of start (S.rest source.now) in
+        result ≡ next_of reading.rule reading.total (table_listing (memory_of table.now) place) }
     ensures right { IfSome result (λ following. MayTake (S.rest source.now) following.head) }
 {
     reading_after(table, start, source, reading.rule, reading.total)

@@ -5,10 +5,10 @@ ghost use Rattle.scan.specs.Listing.{table_listing};
 ghost use Rattle.reader.specs.Moves.{holding_at, Rejects, Takes};
 ghost use Rattle.reader.specs.Refusals.{take_refusal, keep_refusal, extend_refusal};
 
+use crate::ScanFault;
 use crate::finds::following;
 use crate::state::{Holding, Idle, Refused};
 use crate::strip::{STRIP_BYTES, copy_front};
-use crate::ScanFault;
 use places::Reading;
 use scan::Start;
 use source::Source;
@@ -60,11 +60,9 @@ impl Holding {
         source: &S,
         strip: &mut [u8],
     ) -> Result<Holding, Refused<Holding>>
-        ensures {
-            let rest = S.rest source.now in
+        ensures { let rest = S.rest source.now in
             let listing = table_listing (memory_of table.now) (holding_at self rest) in
-            Rejects self rest listing strip.old strip.new result
-        }
+            Rejects self rest listing strip.old strip.new result }
     {
         if strip.len() < STRIP_BYTES {
             return Err(Refused {
@@ -106,10 +104,8 @@ impl Holding {
     ) -> Result<Idle, Refused<Holding>>
         requires some { 1 ≤ n }
         requires few { keeping ≤ 3072 }
-        ensures {
-            let why = take_refusal (S.rest source.old) n in
-            Takes S.rest S.slack S.CAPACITY self why n keeping source.old source.new result
-        }
+        ensures { let why = take_refusal (S.rest source.old) n in
+            Takes S.rest S.slack S.CAPACITY self why n keeping source.old source.new result }
     {
         let last = source.look(n - 1);
         match source.go_by(n) {
@@ -135,11 +131,9 @@ impl Holding {
 
     /// Takes the head, and keeps nothing.
     pub fn accept<S: Source>(self, source: &mut S) -> Result<Idle, Refused<Holding>>
-        ensures {
-            let n = self.reading.head in
+        ensures { let n = self.reading.head in
             let why = take_refusal (S.rest source.old) n in
-            Takes S.rest S.slack S.CAPACITY self why n 0 source.old source.new result
-        }
+            Takes S.rest S.slack S.CAPACITY self why n 0 source.old source.new result }
     {
         let n = self.reading.head;
         self.take(source, n, 0)
@@ -147,11 +141,9 @@ impl Holding {
 
     /// Takes so much of the head that the text has n bytes, and keeps nothing.
     pub fn keep<S: Source>(self, source: &mut S, n: usize) -> Result<Idle, Refused<Holding>>
-        ensures {
-            let more = n - self.kept in
+        ensures { let more = n - self.kept in
             let why = keep_refusal self.kept self.reading.head n (S.rest source.old) in
-            Takes S.rest S.slack S.CAPACITY self why more 0 source.old source.new result
-        }
+            Takes S.rest S.slack S.CAPACITY self why more 0 source.old source.new result }
     {
         if n <= self.kept || n > self.yyleng() {
             return Err(Refused {
@@ -165,11 +157,9 @@ impl Holding {
 
     /// Takes the head, and keeps the text.
     pub fn extend<S: Source>(self, source: &mut S) -> Result<Idle, Refused<Holding>>
-        ensures {
-            let n = self.reading.head in
+        ensures { let n = self.reading.head in
             let why = extend_refusal self.kept n (S.rest source.old) in
-            Takes S.rest S.slack S.CAPACITY self why n (self.kept + n) source.old source.new result
-        }
+            Takes S.rest S.slack S.CAPACITY self why n (self.kept + n) source.old source.new result }
     {
         let yyleng = self.yyleng();
         if yyleng > MOST_KEPT {

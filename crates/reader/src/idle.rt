@@ -4,10 +4,10 @@ ghost use Rattle.table.specs.Held.{memory_of};
 ghost use Rattle.scan.specs.Listing.{table_listing};
 ghost use Rattle.reader.specs.Moves.{idle_at, Nexts, Begins, Returns};
 
+use crate::ScanFault;
 use crate::finds::first;
 use crate::state::{Holding, Idle, Refused};
 use crate::strip::{STRIP_BYTES, copy_front};
-use crate::ScanFault;
 use scan::Start;
 use source::Source;
 use table::Table;
@@ -55,11 +55,9 @@ impl Idle {
         source: &S,
         strip: &mut [u8],
     ) -> Result<Holding, Refused<Idle>>
-        ensures {
-            let rest = S.rest source.now in
+        ensures { let rest = S.rest source.now in
             let listing = table_listing (memory_of table.now) (idle_at self rest) in
-            Nexts self rest listing strip.old strip.new result
-        }
+            Nexts self rest listing strip.old strip.new result }
     {
         if strip.len() < STRIP_BYTES {
             return Err(Refused {

@@ -40,19 +40,12 @@ fn offers(holding: &Holding) -> Answer
     }
 }
 
-fn next<S: Source>(
-    idle: Idle,
-    table: &Table,
-    source: &S,
-    strip: &mut [u8],
-) -> (Reader, Answer)
+fn next<S: Source>(idle: Idle, table: &Table, source: &S, strip: &mut [u8]) -> (Reader, Answer)
     requires { 4096 ≤ length strip.old }
-    ensures {
-        let world = world_of table.now S.CAPACITY in
+    ensures { let world = world_of table.now S.CAPACITY in
         let old = around (S.rest source.now) (S.slack source.now) strip.old in
         let new = around (S.rest source.now) (S.slack source.now) strip.new in
-        Follows world Next old (Waiting idle) new result
-    }
+        Follows world Next old (Waiting idle) new result }
 {
     match idle.next(table, source, strip) {
         Ok(holding) => {
@@ -70,11 +63,9 @@ fn begin<S: Source>(
     source: &S,
     strip: &[u8],
 ) -> (Reader, Answer)
-    ensures {
-        let world = world_of table.now S.CAPACITY in
+    ensures { let world = world_of table.now S.CAPACITY in
         let here = around (S.rest source.now) (S.slack source.now) strip.now in
-        Follows world (Begin condition) here (Waiting idle) here result
-    }
+        Follows world (Begin condition) here (Waiting idle) here result }
 {
     match idle.begin(table, condition) {
         Ok(idle) => (Reader::Waiting(idle), plain(0, 0)),
@@ -89,12 +80,10 @@ fn put_back<S: Source>(
     source: &mut S,
     strip: &[u8],
 ) -> (Reader, Answer)
-    ensures {
-        let world = world_of table.now S.CAPACITY in
+    ensures { let world = world_of table.now S.CAPACITY in
         let old = around (S.rest source.old) (S.slack source.old) strip.now in
         let new = around (S.rest source.new) (S.slack source.new) strip.now in
-        Follows world (PutBack b) old (Waiting idle) new result
-    }
+        Follows world (PutBack b) old (Waiting idle) new result }
 {
     match idle.put_back(source, b) {
         Ok(idle) => (Reader::Waiting(idle), plain(0, 0)),
@@ -109,12 +98,10 @@ fn reject<S: Source>(
     strip: &mut [u8],
 ) -> (Reader, Answer)
     requires { 4096 ≤ length strip.old }
-    ensures {
-        let world = world_of table.now S.CAPACITY in
+    ensures { let world = world_of table.now S.CAPACITY in
         let old = around (S.rest source.now) (S.slack source.now) strip.old in
         let new = around (S.rest source.now) (S.slack source.now) strip.new in
-        Follows world Reject old (InHand holding) new result
-    }
+        Follows world Reject old (InHand holding) new result }
 {
     match holding.reject(table, source, strip) {
         Ok(holding) => {
@@ -131,12 +118,10 @@ fn accept<S: Source>(
     source: &mut S,
     strip: &[u8],
 ) -> (Reader, Answer)
-    ensures {
-        let world = world_of table.now S.CAPACITY in
+    ensures { let world = world_of table.now S.CAPACITY in
         let old = around (S.rest source.old) (S.slack source.old) strip.now in
         let new = around (S.rest source.new) (S.slack source.new) strip.now in
-        Follows world Accept old (InHand holding) new result
-    }
+        Follows world Accept old (InHand holding) new result }
 {
     let taken = holding.reading().head;
     match holding.accept(source) {
@@ -152,12 +137,10 @@ fn keep<S: Source>(
     source: &mut S,
     strip: &[u8],
 ) -> (Reader, Answer)
-    ensures {
-        let world = world_of table.now S.CAPACITY in
+    ensures { let world = world_of table.now S.CAPACITY in
         let old = around (S.rest source.old) (S.slack source.old) strip.now in
         let new = around (S.rest source.new) (S.slack source.new) strip.now in
-        Follows world (Keep n) old (InHand holding) new result
-    }
+        Follows world (Keep n) old (InHand holding) new result }
 {
     let taken = n.saturating_sub(holding.kept());
     match holding.keep(source, n) {
@@ -172,12 +155,10 @@ fn extend<S: Source>(
     source: &mut S,
     strip: &[u8],
 ) -> (Reader, Answer)
-    ensures {
-        let world = world_of table.now S.CAPACITY in
+    ensures { let world = world_of table.now S.CAPACITY in
         let old = around (S.rest source.old) (S.slack source.old) strip.now in
         let new = around (S.rest source.new) (S.slack source.new) strip.now in
-        Follows world Extend old (InHand holding) new result
-    }
+        Follows world Extend old (InHand holding) new result }
 {
     let taken = holding.reading().head;
     match holding.extend(source) {
@@ -195,12 +176,10 @@ pub(crate) fn step<S: Source>(
     strip: &mut [u8],
 ) -> (Reader, Answer)
     requires { 4096 ≤ length strip.old }
-    ensures {
-        let world = world_of table.now S.CAPACITY in
+    ensures { let world = world_of table.now S.CAPACITY in
         let old = around (S.rest source.old) (S.slack source.old) strip.old in
         let new = around (S.rest source.new) (S.slack source.new) strip.new in
-        Follows world line old reader new result
-    }
+        Follows world line old reader new result }
 {
     match (reader, line) {
         (Reader::Waiting(idle), Line::Next) => next(idle, table, source, strip),

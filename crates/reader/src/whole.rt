@@ -41,32 +41,24 @@ pub fn book<S: Source>(
     answers: &mut [Answer],
     strip: &mut [u8],
 ) -> Result<(), BookFault>
-    ensures refusal {
-        let why = book_refusal (length strip.old) (length answers.old) (length lines.now) in
+    ensures refusal { let why = book_refusal (length strip.old) (length answers.old) (length lines.now) in
         MatchResult result
         (λ _. why ≡ None)
         (λ fault. (why ≡ Some fault) × (source.new ≡ source.old) × (answers.new ≡ answers.old)
-        × (strip.new ≡ strip.old))
-    }
+        × (strip.new ≡ strip.old)) }
     // The answers, the source and the strip are as the plain book leaves them.
-    ensures kept {
-        let world = world_of table.now S.CAPACITY in
+    ensures kept { let world = world_of table.now S.CAPACITY in
         let old = around (S.rest source.old) (S.slack source.old) strip.old in
         let new = around (S.rest source.new) (S.slack source.new) strip.new in
-        IfOk result (λ _. IsKept world lines.now old answers.old new answers.new)
-    }
+        IfOk result (λ _. IsKept world lines.now old answers.old new answers.new) }
     // The laws, of what then stands in the caller's memory.
-    ensures laws {
-        let listing = table_listing (memory_of table.now) in
+    ensures laws { let listing = table_listing (memory_of table.now) in
         IfOk result (λ _. Lawful (λ place listed. listed ≡ listing place) (S.rest source.old)
-        (entries_of lines.now answers.new))
-    }
+        (entries_of lines.now answers.new)) }
     // And by it alone: what is left of the source, and the strip.
-    ensures told {
-        let old = around (S.rest source.old) (S.slack source.old) strip.old in
+    ensures told { let old = around (S.rest source.old) (S.slack source.old) strip.old in
         let new = around (S.rest source.new) (S.slack source.new) strip.new in
-        IfOk result (λ _. IsTold S.CAPACITY old new (entries_of lines.now answers.new))
-    }
+        IfOk result (λ _. IsTold S.CAPACITY old new (entries_of lines.now answers.new)) }
 {
     if strip.len() < STRIP_BYTES {
         return Err(BookFault::ShortStrip);

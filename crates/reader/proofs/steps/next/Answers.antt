@@ -29,4 +29,5 @@ returns-in-Err g c =
       c.plain.ensures ∙ ap (λ (n : ℕ). answer n 0) number,
       ap (λ (i : Idle). view here offered (Waiting i)) (sym refused.0.1),
       tt,
-      refused.1)
+      refused.1,
+    )
