@@ -7,8 +7,7 @@
 use anyhow::{Context, bail};
 use bits::{Bits, PositionSet};
 use loader::{MOST_ROWS, WORK_SETS, load};
-use readings::readings;
-use scan::Start;
+use scan::{RuleHeads, Start, Trace, Trails};
 use source::Sheet;
 use std::io::ErrorKind;
 use std::{env, fs};
@@ -85,7 +84,11 @@ fn main(rt: HostRuntime) -> anyhow::Result<()> {
     }
     let table = take_up(&loaded, rows.as_slice());
     let text = Sheet::new(sheet.as_slice(), place.offset);
-    for reading in readings(&table, place.start, &text) {
+    let mut met = [0; 1024];
+    let mut heads: Vec<RuleHeads> = vec![in rt.alloc(); RuleHeads::new(); 64]?;
+    let mut trails = Trails::new();
+    let trace = Trace::follow(&table, place.start, &text, &mut met);
+    for reading in trace.readings(heads.as_mut_slice(), &mut trails) {
         println!(&rt; "{reading}")?;
     }
     Ok(())

@@ -143,7 +143,7 @@ module _ (w : Work) (n : ℕ) (x : Bits 8) (s : Stored w n) (h : Whole 8 x.words
 
 -- x is the same as one of the n sets
 module _ (w : Work) (n : ℕ) (x : Bits 8) (s : Stored w n) (k : ℕ) (lt : k < n) (same : (get_or w k nil).words ≡ x.words) where
-  is_first : finder.First words_of w n x k
+  is_first : finder.FirstFound words_of w n x k
   is_first = (
     lt,
     λ d. ap words_of (get_or_default w k d nil (omega (arith, s.room))) ∙ same,

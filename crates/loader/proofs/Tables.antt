@@ -150,7 +150,16 @@ module _ {file : List ℕ} {f : RuleFile} {rs : List Set} {most : ℕ} {mem : Me
         rule = q;
         number = t.number;
         of = at;
-        reads = record { active = a.0; anchor = a.1; some = t.some; most = t.most; within = t.within; headed = t.head.some; splits = g.0; greatest = g.1 };
+        matches = record {
+          active = a.0;
+          anchor = a.1;
+          some = t.some;
+          within = t.within;
+          headed = t.head.some;
+          splits = g.0;
+          greatest = g.1;
+        };
+        most = t.most;
       }
 
   listed_of : (d : Reading) → TableListed mem p d → Listed f.rules p d
@@ -162,14 +171,14 @@ module _ {file : List ℕ} {f : RuleFile} {rs : List Set} {most : ℕ} {mem : Me
 
   table_of : (d : Reading) → Listed f.rules p d → TableListed mem p d
   table_of d m =
-      let r = m.reads in
+      let r = m.matches in
       let alive = live_from m.rule p.condition p.at_line_start r.active r.anchor in
       record {
         before = m.before;
         few = omega (arith, slice_get_within f.rules m.before m.rule m.of, ready.within.rules_64);
         number = m.number;
         some = r.some;
-        most = r.most;
+        most = m.most;
         within = r.within;
         end = (ends_if m.before m.rule m.of d.total r.some r.within).1 (alive, (d.head, r.headed, r.splits));
         head = fit_of_head m.rule.expression (take d.total p.rest) (fits mem p d.total m.before) m.rule.trailing d.total d.head (length-take-le d.total p.rest r.within)

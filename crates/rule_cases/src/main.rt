@@ -12,8 +12,7 @@ mod escaped;
 use escaped::decode;
 use grammar::Fault;
 use loader::{Counts, MOST_ROWS, WORK_SETS, load, read_rules};
-use readings::readings;
-use scan::Start;
+use scan::{RuleHeads, Start, Trace, Trails};
 use source::Sheet;
 use std::fs;
 use std::str::Split;
@@ -86,7 +85,12 @@ fn show_listing(
         print!(rt; " load {fault}")?;
     }
     let table = take_up(&loaded, rows);
-    for reading in readings(&table, start, &Sheet::new(sheet.as_slice(), offset)) {
+    let text = Sheet::new(sheet.as_slice(), offset);
+    let mut met = [0; 1024];
+    let mut heads: Vec<RuleHeads> = vec![in rt.alloc(); RuleHeads::new(); 64]?;
+    let mut trails = Trails::new();
+    let trace = Trace::follow(&table, start, &text, &mut met);
+    for reading in trace.readings(heads.as_mut_slice(), &mut trails) {
         print!(rt; " {reading}")?;
     }
     println!(rt)?;

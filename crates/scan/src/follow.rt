@@ -1,5 +1,5 @@
 // One pass over the bytes of a source: each is looked at once, and the number of each row that is met is written.
-ghost use Rattle.std.specs.Prelude.{◌≡◌, ◌+◌, ◌<◌, drop, slice_index};
+ghost use Rattle.std.specs.Prelude.{◌≡◌, ◌+◌, ◌<◌, min, length, drop, slice_index};
 ghost use Rattle.places.specs.Order.{first_of};
 ghost use Rattle.places.specs.Listing.{last_resort};
 ghost use Rattle.table.specs.Held.{memory_of};
@@ -120,7 +120,29 @@ fn run<S: Source>(table: &Table, start: Start, source: &S, met: &mut [u16; 1024]
     ensures met { Met (memory_of table.now) (place_of start (S.rest source.now)) met.new result }
     ensures beyond { drop result met.new ≡ drop result met.old }
 {
-    let most = MOST.min(source.left());
+    let left = source.left();
+    // Each with a bound of its own, so that the compiled loop takes no test that a byte is there.
+    if left < MOST {
+        run_to(table, start, source, met, left)
+    } else {
+        run_to(table, start, source, met, MOST)
+    }
+}
+
+// The same, where this many bytes are looked at if they are live.
+#[inline(always)]
+fn run_to<S: Source>(
+    table: &Table,
+    start: Start,
+    source: &S,
+    met: &mut [u16; 1024],
+    most: usize,
+) -> usize
+    requires { most ≡ min 1024 (length (S.rest source.now)) }
+    ensures live { IsLive (memory_of table.now) (place_of start (S.rest source.now)) result }
+    ensures met { Met (memory_of table.now) (place_of start (S.rest source.now)) met.new result }
+    ensures beyond { drop result met.new ≡ drop result met.old }
+{
     let Some(mut walk) = table.start(start.condition, start.at_line_start) else {
         return 0;
     };

@@ -1,10 +1,10 @@
 // The readings of a listing, one after another.
 ghost use Rattle.std.specs.Prelude.{◌≡◌};
+ghost use Rattle.std.specs.Option.{option_map};
 ghost use Rattle.places.specs.Order.{first_of};
-ghost use Rattle.places.specs.Listing.{last_resort};
 ghost use Rattle.scan.specs.Listing.{of_rules, table_listing};
-ghost use Rattle.scan.specs.Traced.{memory_in, place_in, ends_with, EndsIn};
-ghost use Rattle.scan.specs.Left.{behind};
+ghost use Rattle.scan.specs.Traced.{memory_in, place_in, EndsIn};
+ghost use Rattle.scan.specs.Left.{behind, reading_at};
 ghost use Rattle.scan.specs.Yields.{left};
 
 use crate::ending::Ending;
@@ -34,52 +34,22 @@ impl<'a, S: Source> Trace<'a, S> {
             trails,
             told: Bits::empty(),
             last: None,
+            over: false,
         }
     }
 }
 
 impl<'t, 'a, S: Source> ReadingsLeft<'t, 'a, S> {
-    // The first of what is left.
-    fn first(&mut self) -> Option<Reading>
-        ensures first { result ≡ first_of (left self.old) }
-        ensures trace { self.new.trace.now ≡ self.old.trace.now }
-        ensures last { self.new.last ≡ self.old.last }
-    {
-        match self.ending() {
-            Some(ending) => Some(self.reading(&ending)),
-            None => self.resort(),
-        }
-    }
-
-    // Where the first reading of a rule ends, of those that are left.
+    // Where the first reading of a rule ends, of those behind the one that was given last.
     fn ending(&self) -> Option<Ending<'t, 'a, S>>
-        ensures { let t = self.now.trace.now in
-            EndsIn t (first_of (behind self.now.last (of_rules (memory_in t) (place_in t)))) result }
+        ensures { let t = self.now.trace.now in let m = memory_in t in let p = place_in t in
+            let last = option_map (reading_at m p) self.now.last in
+            EndsIn t (first_of (behind last (of_rules m p))) result }
     {
         match self.last {
             None => self.trace.first(),
-            Some(last) => self.trace.after(last.rule, last.total),
+            Some(last) => self.trace.behind(last.rule, last.total, last.marks),
         }
-    }
-
-    // The single byte, where one is there and was not given.
-    fn resort(&self) -> Option<Reading>
-        ensures { result ≡ first_of (behind self.now.last (last_resort (place_in self.now.trace.now).rest)) }
-    {
-        match self.last {
-            Some(last) if last.rule == 0 => None,
-            _ => self.trace.single(),
-        }
-    }
-
-    // The reading that ends there.
-    fn reading(&mut self, ending: &Ending<S>) -> Reading
-        requires { ending.now.trace.now ≡ self.old.trace.now }
-        ensures reading { result ≡ ends_with ending.now }
-        ensures trace { self.new.trace.now ≡ self.old.trace.now }
-        ensures last { self.new.last ≡ self.old.last }
-    {
-        ending.with_head(told_head(ending, self.heads, &mut self.told, self.trails))
     }
 }
 
@@ -92,10 +62,20 @@ impl<S: Source> Iterator for ReadingsLeft<'_, '_, S> {
 
     ghost remaining = { item_count left };
 
-    #[tactic(auto, using(crate::proofs::Behind::none_left, crate::proofs::Behind::table_left))]
     fn next(&mut self) -> Option<Reading> {
-        let reading = self.first()?;
-        self.last = Some(reading);
-        Some(reading)
+        if self.over {
+            return None;
+        }
+        match self.ending() {
+            Some(ending) => {
+                let head = told_head(&ending, self.heads, &mut self.told, self.trails);
+                self.last = Some(ending.end());
+                Some(ending.with_head(head))
+            }
+            None => {
+                self.over = true;
+                self.trace.single()
+            }
+        }
     }
 }

@@ -1,14 +1,16 @@
 // The head of one reading, by the slash marks of the rows that were met.
-ghost use Rattle.std.specs.Prelude.{◌≡◌, suc, ◌≤◌, take, drop};
+ghost use Rattle.std.specs.Prelude.{◌≡◌, suc, ◌<◌, ◌≤◌, take, drop};
 ghost use Rattle.bits.specs.Set.{bit};
-ghost use Rattle.table.specs.Readings.{end_marks};
+ghost use Rattle.table.specs.Readings.{end_marks, trail_row};
 ghost use Rattle.places.specs.Order.{next_of};
 ghost use Rattle.scan.specs.Listed.{row_after};
 ghost use Rattle.scan.specs.Listing.{of_rules};
 ghost use Rattle.scan.specs.Traced.{memory_in, place_in, head_in, ends_with, EndsIn};
 
+use crate::end::End;
 use crate::ending::Ending;
 use crate::marks::marked;
+use crate::trace::Trace;
 use crate::trails::Trails;
 use places::Reading;
 use source::Source;
@@ -37,7 +39,7 @@ impl<'t, 'a, S: Source> Ending<'t, 'a, S> {
         ensures { let t = self.now.trace.now in
             EndsIn t (next_of (suc self.now.rule) self.now.total (of_rules (memory_in t) (place_in t))) result }
     {
-        self.trace.after(self.rule + 1, self.total)
+        self.trace.behind(self.rule, self.total, self.marks)
     }
 
     /// The reading that ends there.
@@ -55,7 +57,20 @@ impl<'t, 'a, S: Source> Ending<'t, 'a, S> {
         if self.trace.table.trail(self.rule + 1).is_none() {
             return self.total;
         }
-        self.head_by(&mut Trails::new())
+        self.trace
+            .head_by(self.rule, self.total, &mut Trails::new())
+    }
+
+    // What is kept of it while a listing is read.
+    pub(crate) fn end(&self) -> End
+        ensures { let e = self.now in
+            (result.rule ≡ e.rule) × (result.total ≡ e.total) × (result.marks ≡ e.marks) }
+    {
+        End {
+            rule: self.rule,
+            total: self.total,
+            marks: self.marks,
+        }
     }
 
     // The reading, whose head is known.
@@ -69,43 +84,49 @@ impl<'t, 'a, S: Source> Ending<'t, 'a, S> {
             head,
         }
     }
+}
 
-    // The same head: the longest few are tried one by one, and where none of them fits, one pass tells it. So it takes a few
-    // passes at most, and mostly less than one.
-    pub(crate) fn head_by(&self, trails: &mut Trails) -> usize
-        ensures { result ≡ head_in self.now.trace.now self.now.total self.now.rule }
+impl<S: Source> Trace<'_, S> {
+    // The head of a reading of rule i + 1, where i is `rule`: the longest few are tried one by one, and
+    // where none of them fits, one pass tells it. So it takes a few passes at most, and mostly less
+    // than one.
+    pub(crate) fn head_by(&self, rule: usize, total: usize, trails: &mut Trails) -> usize
+        requires rule { rule < 64 }
+        requires live { total ≤ self.now.live }
+        ensures { result ≡ head_in self.now total rule }
     {
-        let Some(trail) = self.trace.table.trail(self.rule + 1) else {
-            return self.total;
+        let Some(trail) = self.table.trail(rule + 1) else {
+            return total;
         };
         let mut tries = 0;
         // By number, since a head is one.
-        for k in (0..self.total).rev() {
-            if marked(self.trace.slashes(k), self.rule) {
+        for k in (0..total).rev() {
+            if marked(self.slashes(k), rule) {
                 if tries == TRIES {
-                    return self.head_in_a_pass(trails);
+                    return self.head_in_a_pass(&trail, rule, total, trails);
                 }
                 tries += 1;
-                if self.is_trailing(&trail, k + 1) {
+                if self.is_trailing(&trail, rule, k + 1, total) {
                     return k + 1;
                 }
             }
         }
-        self.total
+        total
     }
 
-    // Whether the bytes from h on are a trailing part of the rule, by its end mark in the row that they lead to.
-    fn is_trailing(&self, trail: &Walk, h: usize) -> bool
-        requires { trail.now.table.now ≡ self.now.trace.now.table.now }
-        ensures { let t = self.now.trace.now in
-            let bytes = take self.now.total (S.rest t.source.now) in
-            let at = row_after (memory_in t) trail.now.row (drop h bytes) in
-            result ≡ bit (end_marks (memory_in t) at) self.now.rule }
+    // Whether the bytes from h up to the total are a trailing part of the rule, by its end mark in the
+    // row that they lead to.
+    fn is_trailing(&self, trail: &Walk, rule: usize, h: usize, total: usize) -> bool
+        requires of { trail.now.table.now ≡ self.now.table.now }
+        requires rule { rule < 64 }
+        requires live { total ≤ self.now.live }
+        ensures { let bytes = take total (S.rest self.now.source.now) in let m = memory_in self.now in
+            result ≡ bit (end_marks m (row_after m trail.now.row (drop h bytes))) rule }
     {
         let mut walk = *trail;
         // By number, since a source is looked at by number.
-        for k in h..self.total {
-            let Some(b) = self.trace.source.look(k) else {
+        for k in h..total {
+            let Some(b) = self.source.look(k) else {
                 return false;
             };
             let Some(next) = walk.step(b) else {
@@ -113,24 +134,25 @@ impl<'t, 'a, S: Source> Ending<'t, 'a, S> {
             };
             walk = next;
         }
-        marked(walk.ends(), self.rule)
+        marked(walk.ends(), rule)
     }
 
     // The head in one pass over its bytes.
-    fn head_in_a_pass(&self, trails: &mut Trails) -> usize
-        ensures { result ≡ head_in self.now.trace.now self.now.total self.now.rule }
+    fn head_in_a_pass(&self, trail: &Walk, rule: usize, total: usize, trails: &mut Trails) -> usize
+        requires rule { rule < 64 }
+        requires live { total ≤ self.now.live }
+        requires of { trail.now.table.now ≡ self.now.table.now }
+        requires trail { trail.now.row ≡ trail_row (memory_in self.now) (suc rule) }
+        ensures { result ≡ head_in self.now total rule }
     {
-        let Some(trail) = self.trace.table.trail(self.rule + 1) else {
-            return self.total;
-        };
         let mut from = 1024;
         let mut to = 1024;
         // By number, since the rows that were met are read by number.
-        for k in 0..self.total {
+        for k in 0..total {
             let low = from;
-            from = self.trace.begin(trails, &trail, self.rule, k, low, to);
-            to = self.trace.go_on(trails, self.rule, k, from, low, to);
+            from = self.begin(trails, trail, rule, k, low, to);
+            to = self.go_on(trails, rule, k, from, low, to);
         }
-        self.trace.longest(trails, self.rule, self.total, from, to) as usize
+        self.longest(trails, rule, total, from, to) as usize
     }
 }

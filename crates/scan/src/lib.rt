@@ -7,6 +7,7 @@ ghost use Rattle.places.specs.Order.{first_of, next_of};
 ghost use Rattle.scan.specs.Listing.{place_of, table_listing, TableLists};
 ghost use Rattle.scan.specs.Near.{TableNear};
 
+mod end;
 mod ending;
 mod ends;
 mod follow;

@@ -1,5 +1,5 @@
 // Marks of rules, bit i for rule i + 1.
-ghost use Rattle.std.specs.Prelude.{◌≡◌, ◌<◌};
+ghost use Rattle.std.specs.Prelude.{◌≡◌, suc, ◌<◌};
 ghost use Rattle.bits.specs.Set.{bit, FirstBit};
 
 // Whether rule i has its mark among these.
@@ -11,12 +11,24 @@ pub(crate) fn marked(marks: u64, i: usize) -> bool
     (marks >> i) % 2 == 1
 }
 
-// The first rule from `low` on that has its mark among these.
-pub(crate) fn first_mark(marks: u64, low: usize) -> Option<usize>
-    ensures { FirstBit marks low result }
+// The first rule that has its mark among these.
+pub(crate) fn first_mark(marks: u64) -> Option<usize>
+    ensures { FirstBit marks 0 result }
 {
-    if low >= 64 || marks >> low == 0 {
+    if marks == 0 {
         return None;
     }
-    Some(low + (marks >> low).trailing_zeros() as usize)
+    Some(marks.trailing_zeros() as usize)
+}
+
+// The first one behind rule i.
+pub(crate) fn next_mark(marks: u64, i: usize) -> Option<usize>
+    requires { i < 64 }
+    ensures { FirstBit marks (suc i) result }
+{
+    let behind = marks >> i >> 1;
+    if behind == 0 {
+        return None;
+    }
+    Some(i + 1 + behind.trailing_zeros() as usize)
 }

@@ -38,7 +38,7 @@ pub(crate) fn told_head<S: Source>(
         return ending.total;
     };
     if ending.rule >= heads.len() {
-        return ending.head_by(trails);
+        return ending.trace.head_by(ending.rule, ending.total, trails);
     }
     if !told.has(ending.rule) {
         ending

@@ -15,9 +15,9 @@ returns-in-Some g c =
     let k = c.loop-k.k in
     let same : k - 1 + 1 ≡ suc (k - 1) = omega arith in
     let all : suc (k - 1) ≡ k = omega (arith, c.loop-k-test.true) in
-    let marks : c.ends.result ≡ end_marks m (row_met m p (suc (k - 1))) = c.ends.ensures ∙ ap (λ n. end_marks m (row_met m p n)) same in (
+    let marks : c.ends-marks.result ≡ end_marks m (row_met m p (suc (k - 1))) = c.ends-marks.ensures ∙ ap (λ n. end_marks m (row_met m p n)) same in (
       ap (λ n. Some (reading m p n c.in-Some.rule)) same
-          ∙ sym (first_at m p (k - 1) c.ends.result (Some c.in-Some.rule) marks c.in-Some.ensures)
+          ∙ sym (first_at m p (k - 1) c.ends-marks.result (Some c.in-Some.rule) marks c.in-Some.ensures)
           ∙ ap (λ n. first_of (up_to m p n)) all ∙ c.loop-k.invariant,
       refl,
     )
@@ -30,6 +30,6 @@ loop-k-preserved g c =
     let k = c.loop-k.k in
     let same : k - 1 + 1 ≡ suc (k - 1) = omega arith in
     let all : suc (k - 1) ≡ k = omega (arith, c.loop-k-test.true) in
-    let marks : c.ends.result ≡ end_marks m (row_met m p (suc (k - 1))) = c.ends.ensures ∙ ap (λ n. end_marks m (row_met m p n)) same in
-    sym (first_at m p (k - 1) c.ends.result None marks c.in_default.ensures)
+    let marks : c.ends-marks.result ≡ end_marks m (row_met m p (suc (k - 1))) = c.ends-marks.ensures ∙ ap (λ n. end_marks m (row_met m p n)) same in
+    sym (first_at m p (k - 1) c.ends-marks.result None marks c.in_default.ensures)
     ∙ ap (λ n. first_of (up_to m p n)) all ∙ c.loop-k.invariant

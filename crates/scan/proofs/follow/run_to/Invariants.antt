@@ -3,7 +3,7 @@ use Rattle.table.specs.Held.{memory_of}
 use Rattle.table.specs.Readings.{IsStored}
 use Rattle.scan.specs.Listing.{place_of}
 use Rattle.scan.specs.Met.{row_met, Met}
-use Rattle.scan.proofs.follow.run.Given as goal
+use Rattle.scan.proofs.follow.run_to.Given as goal
 
 -- the walk stands in the row that the bytes so far lead to, and the rows before it were met
 abbrev pub invariant-loop-k : goal.invariant-loop-k

@@ -5,7 +5,7 @@ use Rattle.table.specs.Readings.{start_row, IsStored}
 use Rattle.scan.specs.Listing.{place_of}
 use Rattle.scan.specs.Met.{row_met}
 use Rattle.scan.proofs.Rows.{next_met, met_more, beyond_more, live_up_to, stands_stored}
-use Rattle.scan.proofs.follow.run.Goals as goal
+use Rattle.scan.proofs.follow.run_to.Goals as goal
 
 pub returns-in_default-step-clause-live : goal.returns-in_default-step-clause-live
 returns-in_default-step-clause-live g c =
@@ -14,7 +14,7 @@ returns-in_default-step-clause-live g c =
     let p = place_of c.args.start rest in
     let k = c.loop-k.k in
     let w = c.loop-k.walk in
-    let short : k < min 1024 (length rest) = omega (arith, c.left.ensures, c.min-most.ensures) in
+    let short : k < min 1024 (length rest) = omega (arith, c.requires) in
     let row : 0 ≡ row_met mem p (k + 1) =
     next_met mem (memory_of w.table.now) (start_row mem c.args.start.condition c.args.start.at_line_start) rest k w.row 0 c.in-Some-look.b
     (omega arith) (ap memory_of c.loop-k.invariant.of) c.loop-k.invariant.row (sym c.in-Some-look.is ∙ c.look.ensures) (sym c.in_default-step.ensures) in
@@ -31,7 +31,7 @@ loop-k-preserved g c =
     let told = c.in-Some-step.ensures in
     let row : next.row ≡ row_met mem p (k + 1) =
     next_met mem (memory_of w.table.now) (start_row mem c.args.start.condition c.args.start.at_line_start) rest k w.row next.row c.in-Some-look.b
-    (omega (arith, c.left.ensures, c.min-most.ensures)) (ap memory_of c.loop-k.invariant.of) c.loop-k.invariant.row (sym c.in-Some-look.is ∙ c.look.ensures) told.1 in
+    (omega (arith, c.requires)) (ap memory_of c.loop-k.invariant.of) c.loop-k.invariant.row (sym c.in-Some-look.is ∙ c.look.ensures) told.1 in
     let same : next.table.now ≡ c.args.table.now = told.0 ∙ c.loop-k.invariant.of in
     record {
       of = same;
