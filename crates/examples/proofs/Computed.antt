@@ -9,10 +9,11 @@ use Rattle.grammar.specs.File.{RuleText, RuleFile, rule_file_of}
 use Rattle.places.specs.declared.Reading.{Reading}
 use Rattle.places.specs.Listing.{single, Listing}
 use Rattle.places.proofs.Rows.{listed_readings, listed_are, one_listing}
-use Rattle.examples.specs.Worked.{opening, Lists, reading, ListingsWorked, OthersNotListed}
+use Rattle.plain.specs.Moves.{opening}
+use Rattle.examples.specs.Worked.{Lists, reading, ListingsWorked, OthersNotListed}
 
 -- what an accepted file says
-abbrev said : Out RuleFile → RuleFile
+abbrev pub said : Out RuleFile → RuleFile
 said (Ok f) = f
 said (Err e) = record { conditions = only_initial; rules = []; used = 0 }
 

@@ -1,12 +1,9 @@
 -- Listings, worked out.
-use Rattle.std.specs.Prelude.{◌≡◌, ℕ, true, List, [], ◌∷◌, Ok, codes}
+use Rattle.std.specs.Prelude.{◌≡◌, ℕ, List, [], ◌∷◌, Ok, codes}
 use Rattle.grammar.specs.File.{RuleFile, rule_file_of}
 use Rattle.places.specs.declared.Reading.{Reading}
-use Rattle.places.specs.Listing.{Place, Listing}
-
--- where a text begins
-abbrev pub opening : List ℕ → Place
-opening text = record { condition = 0; at_line_start = true; rest = text }
+use Rattle.places.specs.Listing.{Listing}
+use Rattle.plain.specs.Moves.{opening}
 
 -- the rule file is right, and its rules list ds where the text begins
 abbrev pub Lists : List ℕ → List ℕ → List Reading → Type 0

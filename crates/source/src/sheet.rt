@@ -1,11 +1,12 @@
-// The caller's bytes, from a place on.
+// The caller's bytes, from a place on; nothing can be put back.
 ghost use Rattle.std.specs.Prelude.{◌≡◌, ℕ, ◌<◌, List, drop, All};
+ghost use Rattle.std.proofs.Common.{arith};
 ghost use Rattle.source.specs.Bytes.{all_dropped};
 
-use crate::{REACH, Source};
+use crate::{REACH, Source, SourceFault};
 
-/// What holds bytes. A source that holds a slice is generic over this, since an impl whose head has a lifetime cannot have a
-/// constant that clauses cite.
+/// What holds bytes. A source that holds a slice is generic over this, since an impl whose head has
+/// a lifetime cannot have a constant that clauses cite.
 pub trait Bytes {
     ghost held: { Self → List ℕ };
 
@@ -64,7 +65,13 @@ impl<B: Bytes> Placed<B> {
 }
 
 impl<B: Bytes> Source for Placed<B> {
+    const CAPACITY: usize = 0;
+
+    ghost CAPACITY = { 0 };
+
     ghost rest = { λ s. drop s.at (B.held s.bytes) };
+
+    ghost slack = { λ _. 0 };
 
     fn left(&self) -> usize {
         self.rest().len().min(REACH)
@@ -74,5 +81,24 @@ impl<B: Bytes> Source for Placed<B> {
         self.rest()[..self.left()].get(k).copied()
     }
 
+    fn go_by(&mut self, n: usize) -> Result<(), SourceFault> {
+        if n > self.left() {
+            return Err(SourceFault::PastEnd);
+        }
+        // No further than the end, since a sheet may begin behind it.
+        self.at = self.at.saturating_add(n).min(self.bytes.bytes().len());
+        Ok(())
+    }
+
+    fn put_back(&mut self, _b: u8) -> Result<(), SourceFault> {
+        Err(SourceFault::NoSlack)
+    }
+
     ghost small = { λ s. all_dropped s.at (B.held s.bytes) (B.small s.bytes) };
+
+    ghost fits = { Prim.omega arith };
+
+    ghost within = { λ s. Prim.omega arith };
+
+    ghost supplied = { λ s. Prim.omega arith };
 }

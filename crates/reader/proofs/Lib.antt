@@ -1,0 +1,6 @@
+pub mod Fronts
+pub mod Found
+pub mod Listed
+pub mod Same
+pub mod Denied
+pub mod Reach

@@ -1,0 +1,5 @@
+pub mod Numbers
+pub mod Refusals
+pub mod Moves
+pub mod Follows
+pub mod Kept

@@ -1,0 +1,78 @@
+// A whole book.
+ghost use Rattle.std.specs.Prelude.{◌≡◌, length, None, Some, IfOk, MatchResult};
+ghost use Rattle.table.specs.Held.{memory_of};
+ghost use Rattle.scan.specs.Listing.{table_listing};
+ghost use Rattle.plain.specs.Lawful.{Lawful};
+ghost use Rattle.reader.specs.Follows.{world_of, around};
+ghost use Rattle.reader.specs.Kept.{number_of_book, book_refusal, entries_of, IsKept, IsTold};
+
+use crate::reader::{Reader, close};
+use crate::state::Idle;
+use crate::steps::step;
+use crate::strip::STRIP_BYTES;
+use plain::{Answer, Line};
+use source::Source;
+use table::Table;
+
+/// Why a book is not kept; each reason has its number.
+#[derive(Clone, Copy, PartialEq, Eq, Debug)]
+pub enum BookFault {
+    /// 20: the strip is shorter than 4,096 bytes.
+    ShortStrip = 20,
+    /// 30: there are fewer answers than lines.
+    FewAnswers = 30,
+}
+
+/// The number that the reason is reported by.
+impl From<BookFault> for u8 {
+    ghost from_gives = { λ fault number. number ≡ number_of_book fault };
+
+    fn from(fault: BookFault) -> u8 {
+        fault as u8
+    }
+}
+
+/// Keeps a book: a new reader is told the lines, and each has its answer written. Further answers
+/// stay as they are. It refuses before it does anything.
+pub fn book<S: Source>(
+    table: &Table,
+    source: &mut S,
+    lines: &[Line],
+    answers: &mut [Answer],
+    strip: &mut [u8],
+) -> Result<(), BookFault>
+    ensures refusal { let why = book_refusal (length strip.old) (length answers.old) (length lines.now) in
+        MatchResult result
+        (λ _. why ≡ None)
+        (λ fault. (why ≡ Some fault) × (source.new ≡ source.old) × (answers.new ≡ answers.old)
+        × (strip.new ≡ strip.old)) }
+    // The answers, the source and the strip are as the plain book leaves them.
+    ensures kept { let world = world_of table.now S.CAPACITY in
+        let old = around (S.rest source.old) (S.slack source.old) strip.old in
+        let new = around (S.rest source.new) (S.slack source.new) strip.new in
+        IfOk result (λ _. IsKept world lines.now old answers.old new answers.new) }
+    // The laws, of what then stands in the caller's memory.
+    ensures laws { let listing = table_listing (memory_of table.now) in
+        IfOk result (λ _. Lawful (λ place listed. listed ≡ listing place) (S.rest source.old)
+        (entries_of lines.now answers.new)) }
+    // And by it alone: what is left of the source, and the strip.
+    ensures told { let old = around (S.rest source.old) (S.slack source.old) strip.old in
+        let new = around (S.rest source.new) (S.slack source.new) strip.new in
+        IfOk result (λ _. IsTold S.CAPACITY old new (entries_of lines.now answers.new)) }
+{
+    if strip.len() < STRIP_BYTES {
+        return Err(BookFault::ShortStrip);
+    }
+    if answers.len() < lines.len() {
+        return Err(BookFault::FewAnswers);
+    }
+    let mut reader = Reader::Waiting(Idle::open());
+    // By number, since a reader is moved through each step.
+    for k in 0..lines.len() {
+        let (next, answer) = step(reader, lines[k], table, source, strip);
+        reader = next;
+        answers[k] = answer;
+    }
+    close(reader);
+    Ok(())
+}
