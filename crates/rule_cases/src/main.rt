@@ -2,13 +2,16 @@
 // how many rows are lent. Prints a line for each: the name, and what the file has, or the number and the place of its first
 // fault. Then reads listings.txt, a place to a line: a name, a rule file and a sheet, and perhaps a condition, 1 or 0 for at
 // line start or not, and how many bytes of the sheet come before. Prints a line for each: the name, and what is listed there.
+// Last it reads books.txt, a book to a line, and prints the name, the answers and what is left.
 #![tactic(auto)]
 
 use anyhow::Context;
 use bits::{Bits, PositionSet};
 
+mod books;
 mod escaped;
 
+use books::show_book;
 use escaped::decode;
 use grammar::Fault;
 use loader::{Counts, MOST_ROWS, WORK_SETS, load, read_rules};
@@ -106,6 +109,9 @@ fn main(rt: HostRuntime) -> anyhow::Result<()> {
     }
     for line in fs::read_to_string(&rt, "listings.txt")?.lines() {
         show_listing(&rt, line, rows.as_mut_slice(), work.as_mut_slice())?;
+    }
+    for line in fs::read_to_string(&rt, "books.txt")?.lines() {
+        show_book(&rt, line, &mut rows.as_mut_slice()[..MOST_ROWS], work.as_mut_slice())?;
     }
     Ok(())
 }
