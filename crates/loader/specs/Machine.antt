@@ -1,9 +1,6 @@
-<<<<<<< HEAD
 -- The positions of a rule file in the work memory, seen as the automaton of its rules. The sets
--- from 1,280 on hold, for each byte, the positions that take it.
-=======
--- The positions of a rule file in the work memory, seen as the automaton of its rules. The sets from 1,280 on hold, for each byte, the positions that take it. Those from 1,536 on hold what may follow either of two positions that lie 256 apart.
->>>>>>> d870d3215fe678ace5ca3187fd1cd1674ff03079
+-- from 1,280 on hold, for each byte, the positions that take it; those from 1,536 on what may follow
+-- either of two positions that lie 256 apart.
 use Rattle.std.specs.Prelude.{◌≡◌, ℕ, zero, suc, ◌+◌, ◌<◌, ◌≤◌, Bool, false, not, ◌&&◌, ◌||◌, List, [], ◌∷◌, length, slice_index}
 use Rattle.bits.specs.declared.Bits.{Bits}
 use Rattle.bits.specs.Set.{has}
