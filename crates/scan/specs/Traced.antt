@@ -1,5 +1,5 @@
 -- What a trace stands for.
-use Rattle.std.specs.Prelude.{◌≡◌, ℕ, List, Option, IfSome}
+use Rattle.std.specs.Prelude.{◌≡◌, ℕ, ◌<◌, List, slice_index, Option, IfSome}
 use Rattle.std.specs.Option.{option_map}
 use Rattle.table.specs.Memory.{Memory}
 use Rattle.table.specs.Held.{memory_of}
@@ -25,6 +25,10 @@ module _ {S : Type 0} {g : Ghosts S} where
   -- the head that rule i has there with total n
   abbrev pub head_in : Trace S g → ℕ → ℕ → ℕ
   head_in t n i = head_of (memory_in t) (place_in t) n i
+
+  -- the first n of these are its bytes
+  abbrev pub AreBytes : Trace S g → List ℕ → ℕ → Type 0
+  AreBytes t bytes n = (k : ℕ) → k < n → slice_index bytes k ≡ slice_index (place_in t).rest k
 
   -- the reading that ends there
   abbrev pub ends_with : Ending S g → Reading

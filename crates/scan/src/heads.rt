@@ -151,7 +151,7 @@ impl<S: Source> Trace<'_, S> {
         for k in 0..total {
             let low = from;
             from = self.begin(trails, trail, rule, k, low, to);
-            to = self.go_on(trails, rule, k, from, low, to);
+            to = self.go_on(trails, rule, k, self.byte(k), from, low, to);
         }
         self.longest(trails, rule, total, from, to) as usize
     }

@@ -1,8 +1,8 @@
 // One pass over the live bytes with the trails of one rule, which tells its head for each total.
-ghost use Rattle.std.specs.Prelude.{◌≡◌, ◌+◌, suc, ◌<◌, ◌≤◌};
+ghost use Rattle.std.specs.Prelude.{◌≡◌, ◌+◌, suc, ◌<◌, ◌≤◌, slice_index};
 ghost use Rattle.table.specs.Readings.{trail_row};
 ghost use Rattle.scan.specs.Trails.{HeadsOf};
-ghost use Rattle.scan.specs.Traced.{memory_in, place_in, head_in, TrailsIn, MovingIn};
+ghost use Rattle.scan.specs.Traced.{memory_in, place_in, head_in, TrailsIn, MovingIn, AreBytes};
 
 use crate::follow::stored;
 use crate::marks::marked;
@@ -27,14 +27,26 @@ impl<S: Source> Trace<'_, S> {
         requires trail { trail.now.row ≡ trail_row (memory_in self.now) (suc rule) }
         ensures { let t = self.now in HeadsOf (memory_in t) (place_in t) t.live heads.new.heads rule }
     {
+        let mut bytes = [0; 1024];
+        self.copy(&mut bytes);
         let mut from = 1024;
         let mut to = 1024;
         // By number, since the rows that were met are read by number.
         for k in 0..self.live {
             let low = from;
             from = self.begin(trails, trail, rule, k, low, to);
-            to = self.go_on(trails, rule, k, from, low, to);
+            to = self.go_on(trails, rule, k, bytes[k], from, low, to);
             heads.heads[k] = self.longest(trails, rule, k + 1, from, to);
+        }
+    }
+
+    // Copies the live bytes: a pass that has them at hand takes fewer steps than one that looks at each.
+    fn copy(&self, bytes: &mut [u8; 1024])
+        ensures { AreBytes self.now bytes.new self.now.live }
+    {
+        // By number, since a source is looked at by number.
+        for k in 0..self.live {
+            bytes[k] = self.byte(k);
         }
     }
 
@@ -67,17 +79,19 @@ impl<S: Source> Trace<'_, S> {
         low - 1
     }
 
-    // Moves the trails from `low` up to `high` by byte k; those from `from` up to `low` begin behind it. Answers where they end.
+    // Moves the trails from `low` up to `high` by byte k, which is b; those from `from` up to `low` begin behind it. Answers where they end.
     pub(crate) fn go_on(
         &self,
         trails: &mut Trails,
         rule: usize,
         k: usize,
+        b: u8,
         from: usize,
         low: usize,
         high: usize,
     ) -> usize
         requires live { k < self.now.live }
+        requires byte { b ≡ slice_index (S.rest self.now.source.now) k }
         requires from { from ≤ low }
         requires order { low ≤ high }
         requires few { high ≤ 1024 }
@@ -86,7 +100,6 @@ impl<S: Source> Trace<'_, S> {
         ensures low { low ≤ result }
         ensures high { result ≤ high }
     {
-        let b = self.byte(k);
         let mut at = low;
         // By number, since trails that have moved are put in front of those that are left.
         for j in low..high {
