@@ -1,5 +1,5 @@
 -- The first mark from a rule on, by the word v of the marks from there on.
-use Rattle.std.proofs.Common.{◌≡◌, ℕ, suc, ◌+◌, ◌/◌, ◌^◌, ◌<◌, ◌≤◌, true, Some, None, Option, sym, ap, ◌∙◌, subst, add-one, arith, shr-shr}
+use Rattle.std.proofs.Common.{◌≡◌, ℕ, suc, ◌+◌, ◌/◌, ◌^◌, ◌<◌, true, Some, None, sym, ap, ◌∙◌, subst, add-one, arith, shr-shr}
 use Rattle.std.proofs.Math.Nat.{div-one}
 use lib.Count.{count_trailing_zeros}
 use Rattle.bits.specs.Set.{bit, FirstBit}

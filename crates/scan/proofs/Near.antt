@@ -1,5 +1,5 @@
 -- A table looks no further than 1,024 bytes.
-use Rattle.std.proofs.Common.{◌≡◌, ℕ, zero, suc, ◌≤◌, Bool, true, false, cond, ◌&&◌, List, [], ◌∷◌, ◌++◌, length, min, take, drop, sym, refl, ap, ◌∙◌, inl, inr, arith}
+use Rattle.std.proofs.Common.{◌≡◌, ℕ, zero, suc, ◌≤◌, Bool, cond, ◌&&◌, List, [], ◌∷◌, ◌++◌, length, min, take, drop, sym, refl, ap, ◌∙◌, arith}
 use Rattle.std.proofs.lemmas.List.{length-take}
 use Rattle.bits.specs.Set.{bit}
 use Rattle.table.specs.Memory.{Memory}
@@ -9,7 +9,7 @@ use Rattle.places.specs.Listing.{Place, last_resort}
 use Rattle.places.specs.Near.{near}
 use Rattle.places.proofs.Near.{take_take}
 use Rattle.scan.specs.Listed.{row_after, row_at_place, ended, fits}
-use Rattle.scan.specs.Listing.{greatest, head_of, reading, of_total, up_to, of_rules, table_listing}
+use Rattle.scan.specs.Listing.{greatest, head_of, reading, of_total, up_to, of_rules}
 use Rattle.scan.specs.Near.{TableNear}
 
 -- tests that answer alike up to k have the same greatest number

@@ -1,12 +1,12 @@
 -- Rows that the bytes of a text lead to, one after another.
-use Rattle.std.proofs.Common.{◌≡◌, ℕ, ◌+◌, ◌-◌, ◌<◌, ◌≤◌, Bool, false, List, [], ◌∷◌, ◌++◌, length, get_or, take, drop, Some, sym, refl, ap, ◌∙◌, add-one, arith, length-take, get_or-take, drop-cons}
+use Rattle.std.proofs.Common.{◌≡◌, ℕ, ◌+◌, ◌-◌, ◌<◌, ◌≤◌, false, List, [], ◌∷◌, ◌++◌, length, get_or, take, drop, Some, sym, refl, ap, ◌∙◌, add-one, arith, length-take, get_or-take, drop-cons}
 use lib.Seq.{take-add}
 use Rattle.std.proofs.lemmas.List.{take_more}
 use Rattle.std.proofs.lemmas.Option.{slice_get-get_or}
 use Rattle.table.specs.Memory.{Memory}
 use Rattle.bits.specs.Set.{bit}
 use Rattle.bits.proofs.Words.{bit_zero}
-use Rattle.table.specs.Readings.{next_row, end_marks, slash_marks}
+use Rattle.table.specs.Readings.{next_row, end_marks}
 use Rattle.source.specs.Reach.{seen_of, byte_at}
 use Rattle.scan.specs.Listed.{row_after}
 

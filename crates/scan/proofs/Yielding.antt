@@ -1,12 +1,12 @@
 -- What an iterator over a listing gives, and what it leaves.
-use Rattle.std.proofs.Common.{◌≡◌, ℕ, zero, suc, ◌≢◌, Bool, false, cond, List, [], ◌∷◌, Some, None, Option, refl, sym, ap, ◌∙◌, arith}
+use Rattle.std.proofs.Common.{◌≡◌, ℕ, suc, Bool, false, cond, List, [], ◌∷◌, Some, None, Option, refl, sym, ap, ◌∙◌, arith}
 use Rattle.std.specs.List.{filter}
 use Rattle.std.specs.Option.{option_map, option_or, MatchOption}
 use Rattle.std.proofs.lemmas.Option.{none-some, same_Some}
 use Rattle.table.specs.Memory.{Memory}
 use Rattle.places.specs.declared.Reading.{Reading}
 use Rattle.places.specs.Listing.{Place, single, last_resort}
-use Rattle.places.specs.Order.{comes_after, first_of, next_of}
+use Rattle.places.specs.Order.{comes_after, first_of}
 use Rattle.scan.specs.declared.end.End.{End}
 use Rattle.scan.specs.Listing.{of_rules, table_listing}
 use Rattle.scan.specs.Left.{behind, reading_at}

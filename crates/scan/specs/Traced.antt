@@ -9,8 +9,8 @@ use Rattle.places.specs.Listing.{Place}
 use Rattle.scan.specs.declared.trace.Trace.{Trace}
 use Rattle.scan.specs.declared.ending.Ending.{Ending}
 use Rattle.scan.specs.declared.trails.Trails.{Trails}
-use Rattle.scan.specs.Listing.{place_of, head_of, reading}
-use Rattle.scan.specs.Trails.{AreTrails, AreMoving}
+use Rattle.scan.specs.Listing.{place_of, head_of, reading, of_rules, table_listing}
+use Rattle.scan.specs.Trails.{AreTrails, AreMoving, HeadsOf}
 use Rattle.scan.specs.declared.told.RuleHeads.{RuleHeads}
 use Rattle.scan.specs.Told.{Told}
 
@@ -21,6 +21,13 @@ module _ {S : Type 0} {g : Ghosts S} where
 
   abbrev pub place_in : Trace S g → Place
   place_in t = place_of t.start (g.rest t.source.now)
+
+  -- the readings of rules that are listed there, and all that is
+  abbrev pub rules_in : Trace S g → List Reading
+  rules_in t = of_rules (memory_in t) (place_in t)
+
+  abbrev pub listing_in : Trace S g → List Reading
+  listing_in t = table_listing (memory_in t) (place_in t)
 
   -- the head that rule i has there with total n
   abbrev pub head_in : Trace S g → ℕ → ℕ → ℕ
@@ -46,6 +53,10 @@ module _ {S : Type 0} {g : Ghosts S} where
   abbrev pub MovingIn : Trace S g → ℕ → ℕ → ℕ → ℕ → ℕ → ℕ → Trails → Type 0
   MovingIn t i n from at j to w =
       AreMoving (memory_in t) (place_in t) i n from at j to w.rows w.heads
+
+  -- hs tells the heads of rule i with each total up to the live bytes
+  abbrev pub HeadsIn : Trace S g → List ℕ → ℕ → Type 0
+  HeadsIn t hs i = HeadsOf (memory_in t) (place_in t) t.live hs i
 
   -- the heads of these rules are told
   abbrev pub ToldIn : Trace S g → List RuleHeads → List ℕ → Type 0

@@ -49,11 +49,14 @@ pub record AreMoving (m : Memory) (p : Place) (i n from at j to : ℕ) (rs hs : 
   pub all : (h : ℕ) → 1 ≤ h → h ≤ n + 1 → slashed m p i h ≡ true → 1 ≤ trail_met m p i (n + 1) h
       → Covers m p i (n + 1) from at rs hs h ⊎ ((h ≤ n) × Covers m p i n j to rs hs h)
 
+-- one of the trails from `from` up to `at` stands in row r
+abbrev pub IsTaken : ℕ → ℕ → List ℕ → ℕ → Type 0
+IsTaken from at rs r = (x : ℕ) × (from ≤ x) × (x < at) × (slice_index rs x ≡ r)
+
 -- a trail in row r is one of those up to `at`, or it is put there
 abbrev pub Added : ℕ → ℕ → ℕ → ℕ → List ℕ → List ℕ → List ℕ → List ℕ → ℕ → Type 0
 Added from at r h rs hs rs' hs' end =
-    ((end ≡ at) × (rs' ≡ rs) × (hs' ≡ hs)
-    × ((x : ℕ) × (from ≤ x) × (x < at) × (slice_index rs x ≡ r))) ⊎
+    ((end ≡ at) × (rs' ≡ rs) × (hs' ≡ hs) × IsTaken from at rs r) ⊎
     ((end ≡ at + 1) × (rs' ≡ slice_set rs at r) × (hs' ≡ slice_set hs at h))
 
 -- hs tells the heads of rule i: at k that of k + 1 bytes, for each of n

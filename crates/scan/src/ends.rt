@@ -1,10 +1,11 @@
-// Where the readings of a listing end, one behind another, by the end marks of the rows that were met.
+// Where the readings of a listing end, one behind another, by the end marks of the rows that were
+// met.
 ghost use Rattle.std.specs.Prelude.{◌≡◌, suc, ◌<◌, ◌≤◌};
 ghost use Rattle.table.specs.Readings.{end_marks};
 ghost use Rattle.places.specs.Order.{first_of, next_of};
-ghost use Rattle.scan.specs.Listing.{up_to, of_rules};
+ghost use Rattle.scan.specs.Listing.{up_to};
 ghost use Rattle.scan.specs.Met.{row_met};
-ghost use Rattle.scan.specs.Traced.{memory_in, place_in, EndsIn};
+ghost use Rattle.scan.specs.Traced.{memory_in, place_in, rules_in, EndsIn};
 
 use crate::ending::Ending;
 use crate::marks::{first_mark, next_mark};
@@ -14,7 +15,7 @@ use source::Source;
 impl<'a, S: Source> Trace<'a, S> {
     /// Where the first reading of a rule ends.
     pub fn first(&self) -> Option<Ending<'_, 'a, S>>
-        ensures { let t = self.now in EndsIn t (first_of (of_rules (memory_in t) (place_in t))) result }
+        ensures { EndsIn self.now (first_of (rules_in self.now)) result }
     {
         self.up_to(self.live)
     }
@@ -22,8 +23,7 @@ impl<'a, S: Source> Trace<'a, S> {
     /// Where the first one ends that is listed behind the reading of this rule, counted from 1, and
     /// this total, whatever they are.
     pub fn after(&self, rule: usize, total: usize) -> Option<Ending<'_, 'a, S>>
-        ensures { let t = self.now in
-            EndsIn t (next_of rule total (of_rules (memory_in t) (place_in t))) result }
+        ensures { EndsIn self.now (next_of rule total (rules_in self.now)) result }
     {
         if rule == 0 || total == 0 {
             return None;
@@ -45,8 +45,7 @@ impl<'a, S: Source> Trace<'a, S> {
         requires live { total ≤ self.now.live }
         requires marks { let m = memory_in self.now in
             marks ≡ end_marks m (row_met m (place_in self.now) total) }
-        ensures { let t = self.now in
-            EndsIn t (next_of (suc rule) total (of_rules (memory_in t) (place_in t))) result }
+        ensures { EndsIn self.now (next_of (suc rule) total (rules_in self.now)) result }
     {
         match next_mark(marks, rule) {
             Some(rule) => Some(Ending {

@@ -1,4 +1,5 @@
-// One pass over the bytes of a source: each is looked at once, and the number of each row that is met is written.
+// One pass over the bytes of a source: each is looked at once, and the number of each row that is
+// met is written.
 ghost use Rattle.std.specs.Prelude.{◌≡◌, ◌+◌, ◌<◌, min, length, drop, slice_index};
 ghost use Rattle.places.specs.Order.{first_of};
 ghost use Rattle.places.specs.Listing.{last_resort};
@@ -25,7 +26,8 @@ const SINGLE: Reading = Reading {
 };
 
 impl<'a, S: Source> Trace<'a, S> {
-    /// Follows the bytes of a source through a table, up to the row from which nothing goes on, or 1,024 bytes.
+    /// Follows the bytes of a source through a table, up to the row from which nothing goes on, or
+    /// 1,024 bytes.
     pub fn follow(
         table: &'a Table<'a>,
         start: Start,
@@ -36,6 +38,9 @@ impl<'a, S: Source> Trace<'a, S> {
         ensures start { result.start ≡ start }
         ensures source { result.source.now ≡ source.now }
         ensures same_reference { result.met.ghost_name ≡ met.entry.ghost_name }
+        ensures live { IsLive (memory_of table.now) (place_of start (S.rest source.now)) result.live }
+        ensures met { let p = place_of start (S.rest source.now) in
+            Met (memory_of table.now) p result.met.now result.live }
         ensures beyond { drop result.live result.met.now ≡ drop result.live met.old }
     {
         let live = run(table, start, source, met);
@@ -48,7 +53,8 @@ impl<'a, S: Source> Trace<'a, S> {
         }
     }
 
-    /// How many bytes are live: each leads to a row, and one more, if there is one within 1,024, to none.
+    /// How many bytes are live: each leads to a row, and one more, if there is one within 1,024, to
+    /// none.
     pub fn live(&self) -> usize
         ensures { result ≡ self.now.live }
     {

@@ -2,8 +2,8 @@
 ghost use Rattle.std.specs.Prelude.{◌≡◌};
 ghost use Rattle.std.specs.Option.{option_map};
 ghost use Rattle.places.specs.Order.{first_of};
-ghost use Rattle.scan.specs.Listing.{of_rules, table_listing};
-ghost use Rattle.scan.specs.Traced.{memory_in, place_in, EndsIn};
+ghost use Rattle.scan.specs.Listing.{of_rules};
+ghost use Rattle.scan.specs.Traced.{memory_in, place_in, listing_in, EndsIn};
 ghost use Rattle.scan.specs.Left.{behind, reading_at};
 ghost use Rattle.scan.specs.Yields.{left};
 
@@ -17,16 +17,16 @@ use places::Reading;
 use source::Source;
 
 impl<'a, S: Source> Trace<'a, S> {
-    /// All that is listed here, from the first reading on. Element i of `heads` is lent for rule i + 1: of a rule with a trailing
-    /// part one pass tells all heads there, and without an element each of its readings takes a few passes. What lent memory holds
-    /// does not matter.
+    /// All that is listed here, from the first reading on. Element i of `heads` is lent for rule i
+    /// + 1: of a rule with a trailing part one pass tells all heads there, and without an element
+    /// each of its readings takes a few passes. What lent memory holds does not matter.
     pub fn readings<'t>(
         &'t self,
         heads: &'t mut [RuleHeads],
         trails: &'t mut Trails,
     ) -> ReadingsLeft<'t, 'a, S>
         ensures of { result.trace.now ≡ self.now }
-        ensures left { left result ≡ table_listing (memory_in self.now) (place_in self.now) }
+        ensures left { left result ≡ listing_in self.now }
     {
         ReadingsLeft {
             trace: self,

@@ -4,8 +4,7 @@ ghost use Rattle.bits.specs.Set.{bit};
 ghost use Rattle.table.specs.Readings.{end_marks, trail_row};
 ghost use Rattle.places.specs.Order.{next_of};
 ghost use Rattle.scan.specs.Listed.{row_after};
-ghost use Rattle.scan.specs.Listing.{of_rules};
-ghost use Rattle.scan.specs.Traced.{memory_in, place_in, head_in, ends_with, EndsIn};
+ghost use Rattle.scan.specs.Traced.{memory_in, rules_in, head_in, ends_with, EndsIn};
 
 use crate::end::End;
 use crate::ending::Ending;
@@ -37,7 +36,7 @@ impl<'t, 'a, S: Source> Ending<'t, 'a, S> {
     /// Where the first one ends that is listed behind this one.
     pub fn behind(&self) -> Option<Ending<'t, 'a, S>>
         ensures { let t = self.now.trace.now in
-            EndsIn t (next_of (suc self.now.rule) self.now.total (of_rules (memory_in t) (place_in t))) result }
+            EndsIn t (next_of (suc self.now.rule) self.now.total (rules_in t)) result }
     {
         self.trace.behind(self.rule, self.total, self.marks)
     }
@@ -49,8 +48,8 @@ impl<'t, 'a, S: Source> Ending<'t, 'a, S> {
         self.with_head(self.head())
     }
 
-    /// Its head: the longest that its marks allow, and all of it where they allow none. It takes a few passes at most over the
-    /// bytes of a rule with a trailing part, and none of another.
+    /// Its head: the longest that its marks allow, and all of it where they allow none. It takes a
+    /// few passes at most over the bytes of a rule with a trailing part, and none of another.
     pub fn head(&self) -> usize
         ensures { result ≡ head_in self.now.trace.now self.now.total self.now.rule }
     {
@@ -87,9 +86,9 @@ impl<'t, 'a, S: Source> Ending<'t, 'a, S> {
 }
 
 impl<S: Source> Trace<'_, S> {
-    // The head of a reading of rule i + 1, where i is `rule`: the longest few are tried one by one, and
-    // where none of them fits, one pass tells it. So it takes a few passes at most, and mostly less
-    // than one.
+    // The head of a reading of rule i + 1, where i is `rule`: the longest few are tried one by one,
+    // and where none of them fits, one pass tells it. So it takes a few passes at most, and mostly
+    // less than one.
     pub(crate) fn head_by(&self, rule: usize, total: usize, trails: &mut Trails) -> usize
         requires rule { rule < 64 }
         requires live { total ≤ self.now.live }
@@ -114,13 +113,14 @@ impl<S: Source> Trace<'_, S> {
         total
     }
 
-    // Whether the bytes from h up to the total are a trailing part of the rule, by its end mark in the
-    // row that they lead to.
+    // Whether the bytes from h up to the total are a trailing part of the rule, by its end mark in
+    // the row that they lead to.
     fn is_trailing(&self, trail: &Walk, rule: usize, h: usize, total: usize) -> bool
         requires of { trail.now.table.now ≡ self.now.table.now }
         requires rule { rule < 64 }
         requires live { total ≤ self.now.live }
-        ensures { let bytes = take total (S.rest self.now.source.now) in let m = memory_in self.now in
+        ensures { let m = memory_in self.now in
+            let bytes = take total (S.rest self.now.source.now) in
             result ≡ bit (end_marks m (row_after m trail.now.row (drop h bytes))) rule }
     {
         let mut walk = *trail;

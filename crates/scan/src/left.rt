@@ -23,7 +23,8 @@ pub struct ReadingsLeft<'t, 'a, S: Source> {
     pub(crate) last: Option<End>,
     pub(crate) over: bool,
     ghost ended: { let t = trace.now in
-        ForSome last (EndedAt (memory_of t.table.now) (place_of t.start (S.rest t.source.now)) t.live) },
+        let p = place_of t.start (S.rest t.source.now) in
+        ForSome last (EndedAt (memory_of t.table.now) p t.live) },
     ghost right: { let t = trace.now in let m = memory_of t.table.now in
         Told m (place_of t.start (S.rest t.source.now)) t.live heads.now told.words },
 }

@@ -1,8 +1,7 @@
 // One pass over the live bytes with the trails of one rule, which tells its head for each total.
 ghost use Rattle.std.specs.Prelude.{◌≡◌, ◌+◌, suc, ◌<◌, ◌≤◌, slice_index};
 ghost use Rattle.table.specs.Readings.{trail_row};
-ghost use Rattle.scan.specs.Trails.{HeadsOf};
-ghost use Rattle.scan.specs.Traced.{memory_in, place_in, head_in, TrailsIn, MovingIn, AreBytes};
+ghost use Rattle.scan.specs.Traced.{memory_in, head_in, TrailsIn, MovingIn, HeadsIn, AreBytes};
 
 use crate::follow::stored;
 use crate::marks::marked;
@@ -13,7 +12,8 @@ use source::Source;
 use table::Walk;
 
 impl<S: Source> Trace<'_, S> {
-    // Writes the head that a rule with this trailing part has with each total up to the live bytes: at k that of k + 1 bytes.
+    // Writes the head that a rule with this trailing part has with each total up to the live bytes:
+    // at k that of k + 1 bytes.
     #[inline(never)]
     pub(crate) fn heads(
         &self,
@@ -25,7 +25,7 @@ impl<S: Source> Trace<'_, S> {
         requires rule { rule < 64 }
         requires of { trail.now.table.now ≡ self.now.table.now }
         requires trail { trail.now.row ≡ trail_row (memory_in self.now) (suc rule) }
-        ensures { let t = self.now in HeadsOf (memory_in t) (place_in t) t.live heads.new.heads rule }
+        ensures { HeadsIn self.now heads.new.heads rule }
     {
         let mut bytes = [0; 1024];
         self.copy(&mut bytes);
@@ -40,7 +40,8 @@ impl<S: Source> Trace<'_, S> {
         }
     }
 
-    // Copies the live bytes: a pass that has them at hand takes fewer steps than one that looks at each.
+    // Copies the live bytes: a pass that has them at hand takes fewer steps than one that looks at
+    // each.
     fn copy(&self, bytes: &mut [u8; 1024])
         ensures { AreBytes self.now bytes.new self.now.live }
     {
@@ -50,8 +51,8 @@ impl<S: Source> Trace<'_, S> {
         }
     }
 
-    // Begins a trail behind k + 1 bytes, where the slash mark of the rule stands there, in front of those from `low` on. Answers
-    // where the trails begin.
+    // Begins a trail behind k + 1 bytes, where the slash mark of the rule stands there, in front of
+    // those from `low` on. Answers where the trails begin.
     pub(crate) fn begin(
         &self,
         trails: &mut Trails,
@@ -79,7 +80,8 @@ impl<S: Source> Trace<'_, S> {
         low - 1
     }
 
-    // Moves the trails from `low` up to `high` by byte k, which is b; those from `from` up to `low` begin behind it. Answers where they end.
+    // Moves the trails from `low` up to `high` by byte k, which is b; those from `from` up to `low`
+    // begin behind it. Answers where they end.
     pub(crate) fn go_on(
         &self,
         trails: &mut Trails,
@@ -111,7 +113,8 @@ impl<S: Source> Trace<'_, S> {
         at
     }
 
-    // The head of n bytes: that of the first trail whose row has the end mark of the rule, or else n.
+    // The head of n bytes: that of the first trail whose row has the end mark of the rule, or else
+    // n.
     pub(crate) fn longest(
         &self,
         trails: &Trails,

@@ -22,8 +22,8 @@ impl RuleHeads {
     }
 }
 
-// The head of a reading, where `told` are the rules whose heads are told. Those of another rule with a trailing part are told
-// first, if there is memory for them.
+// The head of a reading, where `told` are the rules whose heads are told. Those of another rule
+// with a trailing part are told first, if there is memory for them.
 pub(crate) fn told_head<S: Source>(
     ending: &Ending<S>,
     heads: &mut [RuleHeads],

@@ -8,8 +8,9 @@ use crate::Start;
 use source::Source;
 use table::Table;
 
-/// The rows that were met in one pass over the bytes of a source, from where a scan starts. What is listed there is read from it,
-/// backwards and without the bytes, but for heads of rules with a trailing part. Only `follow` makes one.
+/// The rows that were met in one pass over the bytes of a source, from where a scan starts. What is
+/// listed there is read from it, backwards and without the bytes, but for heads of rules with a
+/// trailing part. Only `follow` makes one.
 #[derive(Drop)]
 pub struct Trace<'a, S: Source> {
     pub(crate) table: &'a Table<'a>,

@@ -1,4 +1,4 @@
-use Rattle.std.proofs.Common.{◌≡◌, ◌+◌, ◌<◌, length, min, sym, ap, subst, ◌∙◌, arith, length-set}
+use Rattle.std.proofs.Common.{◌≡◌, ◌+◌, ◌<◌, length, min, sym, ap, ◌∙◌, arith, length-set}
 use borrow.Author.Count.{below_more}
 use Rattle.table.specs.Held.{memory_of}
 use Rattle.table.specs.Readings.{start_row, IsStored}

@@ -1,6 +1,5 @@
 use Rattle.std.proofs.Common.{◌≡◌, ◌∷◌, length, List, None, Some, sym, ap, ◌∙◌, arith}
 use Rattle.places.specs.declared.Reading.{Reading}
-use Rattle.places.specs.Order.{first_of}
 use Rattle.scan.specs.Listing.{reading}
 use Rattle.scan.specs.Left.{reading_at, left_of}
 use Rattle.scan.specs.Traced.{memory_in, place_in, ends_with}

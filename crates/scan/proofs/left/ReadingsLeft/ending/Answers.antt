@@ -1,6 +1,6 @@
 use Rattle.std.proofs.Common.{suc, sym, ap, ◌∙◌}
 use Rattle.std.specs.Option.{option_map}
-use Rattle.places.specs.Order.{comes_after, first_of, next_of}
+use Rattle.places.specs.Order.{comes_after, first_of}
 use Rattle.scan.specs.Listing.{of_rules}
 use Rattle.scan.specs.Left.{behind, reading_at}
 use Rattle.scan.specs.Traced.{memory_in, place_in}

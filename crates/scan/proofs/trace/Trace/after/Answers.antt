@@ -1,4 +1,4 @@
-use Rattle.std.proofs.Common.{◌≡◌, suc, ◌-◌, ◌+◌, ◌≤◌, length, min, inl, inr, sym, ap, subst, ◌∙◌, arith}
+use Rattle.std.proofs.Common.{inl, inr, ◌∙◌, arith}
 use Rattle.scan.specs.Traced.{memory_in, place_in}
 use Rattle.scan.proofs.Found.{next_beyond, next_past, none_then}
 use Rattle.scan.proofs.trace.Trace.after.Goals as goal

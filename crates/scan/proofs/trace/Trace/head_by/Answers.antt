@@ -1,7 +1,6 @@
-use Rattle.std.proofs.Common.{◌≡◌, ◌+◌, ◌-◌, ◌≤◌, take, drop, refl, sym, ap, ◌∙◌, arith}
+use Rattle.std.proofs.Common.{◌≡◌, ◌+◌, ◌-◌, ◌≤◌, refl, sym, ap, ◌∙◌, arith}
 use Rattle.bits.specs.Set.{bit}
-use Rattle.table.specs.Readings.{end_marks, slash_marks}
-use Rattle.scan.specs.Listed.{row_after}
+use Rattle.table.specs.Readings.{slash_marks}
 use Rattle.scan.specs.Met.{row_met}
 use Rattle.scan.specs.Traced.{memory_in, place_in}
 use Rattle.scan.proofs.Greatest.{none_fits, no_trail, this_fits}
