@@ -48,9 +48,11 @@ returns-clause-laws g c =
     let world = world_of c.args.table.now g.S.Source.CAPACITY in
     let s = c.args.source.now in
     let old = around (g.S.Source.rest s) (g.S.Source.slack s) c.args.strip.now in
+    let t = c.loop-k.source in
+    let here = around (g.S.Source.rest t) (g.S.Source.slack t) c.loop-k.strip in
     let lines = c.args.lines.now in
     let kept = returns-clause-kept g c in
-    let same = entries_kept world old lines c.args.answers.now c.loop-k.answers _ kept in
+    let same = entries_kept world old lines c.args.answers.now c.loop-k.answers here kept in
     let lawful = book_is_lawful world old.rest old.slack lines (table_lists_right m) in
     subst (Lawful (λ place listed. listed ≡ table_listing m place) old.rest) (sym same) lawful
 
@@ -59,7 +61,9 @@ returns-clause-told g c =
     let world = world_of c.args.table.now g.S.Source.CAPACITY in
     let s = c.args.source.now in
     let old = around (g.S.Source.rest s) (g.S.Source.slack s) c.args.strip.now in
-    all_told world old c.args.lines.now c.args.answers.now c.loop-k.answers _
+    let t = c.loop-k.source in
+    let here = around (g.S.Source.rest t) (g.S.Source.slack t) c.loop-k.strip in
+    all_told world old c.args.lines.now c.args.answers.now c.loop-k.answers here
     (returns-clause-kept g c)
 
 pub returns-clause-bytes : goal.returns-clause-bytes
