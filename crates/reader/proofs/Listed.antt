@@ -69,17 +69,21 @@ module _ (m : Memory) (p : Place) where
       (o : Option Reading) → o ≡ first_of (table_listing m p) →
       MatchOption o (p.rest ≡ []) (λ d. MayTake p.rest d.head)
   first_right None e = nothing_left (sym e)
-  first_right (Some d) e = first_found (λ d. MayTake p.rest d.head) (table_listing m p) d heads (sym e)
+  first_right (Some d) e =
+      first_found (λ d. MayTake p.rest d.head) (table_listing m p) d heads (sym e)
 
   pub following_right :
       (rule total : ℕ) (o : Option Reading) → o ≡ next_of rule total (table_listing m p) →
       IfSome o (λ d. MayTake p.rest d.head)
   following_right rule total None e = tt
   following_right rule total (Some d) e =
-      found (λ d. MayTake p.rest d.head) (comes_after rule total) (table_listing m p) d heads (sym e)
+      found (λ d. MayTake p.rest d.head) (comes_after rule total)
+      (table_listing m p) d heads (sym e)
 
 pub table_lists_right : (m : Memory) → IsListedRight (table_listing m)
 table_lists_right m = record {
-  in_order = λ p. listing_follows (TableListed m p) p.rest (table_listing m p) (λ d t. omega (arith, t.number)) (table_lists m p);
+  in_order = λ p.
+      listing_follows (TableListed m p) p.rest (table_listing m p)
+      (λ d t. omega (arith, t.number)) (table_lists m p);
   heads = λ p. heads m p;
 }

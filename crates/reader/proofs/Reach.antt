@@ -1,5 +1,7 @@
 -- A book as far as it has come.
-use Rattle.std.proofs.Common.{◌≡◌, ℕ, ◌+◌, ◌<◌, ◌≤◌, true, List, [], ◌∷◌, ◌++◌, length, take, drop, get_or, slice_set, refl, sym, ap, ◌∙◌, append_assoc, arith, length-take-le}
+use Rattle.std.proofs.Common.{◌≡◌, ℕ, ◌+◌, ◌<◌, ◌≤◌, true, List, [], ◌∷◌, ◌++◌, length, take, drop, get_or, slice_set, refl, sym, ap, subst, ◌∙◌, append_assoc, arith, length-take-le}
+use Rattle.std.specs.List.{All}
+use Rattle.std.proofs.lemmas.List.Elements.{All-cons, All-append}
 use Rattle.std.proofs.lemmas.List.{take_more, take_all, drop_more, set_at}
 use Rattle.places.specs.declared.Reading.{Reading}
 use Rattle.plain.specs.declared.Line.{Line}
@@ -7,13 +9,28 @@ use Rattle.plain.specs.declared.Answer.{Answer}
 use Rattle.plain.specs.Book.{World, Plain, turn, after, answers}
 use Rattle.plain.specs.Transcript.{Entry, deed, latest_first}
 use Rattle.plain.specs.Strip.{copied, strip_after}
-use Rattle.plain.specs.Theorems.{transcript}
+use Rattle.plain.specs.Theorems.{transcript, PutsBytes}
 use Rattle.plain.proofs.Told.{book_is_told, strip_is_told}
 use Rattle.reader.specs.declared.state.Idle.{Idle}
 use Rattle.reader.specs.declared.reader.Reader.{Reader}
 use Rattle.reader.specs.declared.reader.Reader.TheVariants.{Waiting, InHand}
 use Rattle.reader.specs.Follows.{Around, Follows, view, Within}
 use Rattle.reader.specs.Kept.{opened_at, entries_of, IsKept, IsTold}
+
+bytes_more :
+    (lines : List Line) (k : ℕ) (d : Line) → k < length lines → All PutsBytes (take k lines) →
+    PutsBytes (get_or lines k d) → All PutsBytes (take (k + 1) lines)
+bytes_more lines k d below before byte =
+    let line = get_or lines k d in
+    let one : All PutsBytes (line ∷ []) =
+    All-cons PutsBytes line [] byte (λ j d below. absurd (omega arith)) in
+    subst (All PutsBytes) (sym (take_more lines k d below))
+    (All-append PutsBytes (take k lines) (line ∷ []) before one)
+
+pub all_bytes :
+    (lines : List Line) (k : ℕ) → length lines ≡ k → All PutsBytes (take k lines) →
+    All PutsBytes lines
+all_bytes lines k past bytes = subst (All PutsBytes) (take_all k lines (omega arith)) bytes
 
 module _ (w : World) (old : Around) where
   abbrev opening : Plain
@@ -39,7 +56,8 @@ module _ (w : World) (old : Around) where
 
   strip_more :
       (b : Plain) (strip : List ℕ) (ls : List Line) (l : Line) →
-      strip_after w b strip (ls ++ (l ∷ [])) ≡ one_copied (after w b ls) l (strip_after w b strip ls)
+      strip_after w b strip (ls ++ (l ∷ []))
+      ≡ one_copied (after w b ls) l (strip_after w b strip ls)
   strip_more b strip [] l = refl
   strip_more b strip (x ∷ ls) l =
       strip_more (turn w b x).book (one_copied b x strip) ls l
@@ -59,6 +77,7 @@ module _ (w : World) (old : Around) where
     pub book : after w opening (take k lines) ≡ view here offered reader
     pub written : now ≡ answers w opening (take k lines) ++ drop k room
     pub strip : here.strip ≡ strip_after w opening old.strip (take k lines)
+    pub bytes : All PutsBytes (take k lines)
 
   pub begins :
       (lines : List Line) (room : List Answer) (idle : Idle) →
@@ -70,13 +89,18 @@ module _ (w : World) (old : Around) where
     book = rw (c, s, k) refl;
     written = refl;
     strip = refl;
+    bytes = λ j d below. absurd (omega arith);
   }
 
-  kept_of : (here : Around) (offered : List Reading) (reader : Reader) → (view here offered reader).place.rest ≡ here.rest
-  kept_of here offered (Waiting idle) = refl
-  kept_of here offered (InHand holding) = refl
+  rest_of :
+      (here : Around) (offered : List Reading) (reader : Reader) →
+      (view here offered reader).place.rest ≡ here.rest
+  rest_of here offered (Waiting idle) = refl
+  rest_of here offered (InHand holding) = refl
 
-  slack_of : (here : Around) (offered : List Reading) (reader : Reader) → (view here offered reader).slack ≡ here.slack
+  slack_of :
+      (here : Around) (offered : List Reading) (reader : Reader) →
+      (view here offered reader).slack ≡ here.slack
   slack_of here offered (Waiting idle) = refl
   slack_of here offered (InHand holding) = refl
 
@@ -84,9 +108,9 @@ module _ (w : World) (old : Around) where
       (lines : List Line) (room now : List Answer) (k : ℕ) (here new : Around) (reader : Reader)
       (r : Reader × Answer) (d : Line) →
       k < length lines → length lines ≤ length room → Reached lines room now k here reader →
-      Follows w (get_or lines k d) here reader new r →
+      Follows w (get_or lines k d) here reader new r → PutsBytes (get_or lines k d) →
       Reached lines room (slice_set now k r.1) (k + 1) new r.0
-  one_more lines room now k here new reader r d below fits z follows =
+  one_more lines room now k here new reader r d below fits z follows byte =
       let line = get_or lines k d in
       let made : take (k + 1) lines ≡ take k lines ++ (line ∷ []) = take_more lines k d below in
       let was = view here z.offered reader in
@@ -94,32 +118,37 @@ module _ (w : World) (old : Around) where
       let book : after w opening (take (k + 1) lines) ≡ (turn w was line).book =
       ap (after w opening) made ∙ after_more opening (take k lines) line
       ∙ ap (λ (b : Plain). (turn w b line).book) z.book in
-      let told : answers w opening (take (k + 1) lines) ≡ answers w opening (take k lines) ++ (r.1 ∷ []) =
+      let so_far = answers w opening (take k lines) in
+      let told : answers w opening (take (k + 1) lines) ≡ so_far ++ (r.1 ∷ []) =
       ap (answers w opening) made ∙ answers_more opening (take k lines) line
-      ∙ ap (λ (b : Plain). answers w opening (take k lines) ++ ((turn w b line).answer ∷ [])) z.book
-      ∙ ap (λ (a : Answer). answers w opening (take k lines) ++ (a ∷ [])) (sym step.0) in
-      let stripped : strip_after w opening old.strip (take (k + 1) lines) ≡ one_copied was line here.strip =
+      ∙ ap (λ (b : Plain). so_far ++ ((turn w b line).answer ∷ [])) z.book
+      ∙ ap (λ (a : Answer). so_far ++ (a ∷ [])) (sym step.0) in
+      let before = strip_after w opening old.strip (take k lines) in
+      let stripped :
+      strip_after w opening old.strip (take (k + 1) lines) ≡ one_copied was line here.strip =
       ap (strip_after w opening old.strip) made ∙ strip_more opening old.strip (take k lines) line
-      ∙ ap (λ (b : Plain). one_copied b line (strip_after w opening old.strip (take k lines))) z.book
+      ∙ ap (λ (b : Plain). one_copied b line before) z.book
       ∙ ap (one_copied was line) (sym z.strip) in
+      let did = deed (record { line = line; answer = (turn w was line).answer }) in
       let same_rest : one_copied was line here.strip ≡ new.strip =
-      ap (λ (rest : List ℕ). copied (deed (record { line = line; answer = (turn w was line).answer })) was.kept rest here.strip)
-      (kept_of here z.offered reader) ∙ sym step.3 in
-      let long : length (answers w opening (take k lines)) ≡ k =
+      ap (λ (rest : List ℕ). copied did was.kept rest here.strip)
+      (rest_of here z.offered reader) ∙ sym step.3 in
+      let long : length so_far ≡ k =
       length-answers opening (take k lines) ∙ length-take-le k lines (omega arith) in
       let room_here : k < length room = omega arith in
-      let split : now ≡ answers w opening (take k lines) ++ (get_or room k r.1 ∷ drop (k + 1) room) =
-      z.written ∙ ap (λ (xs : List Answer). answers w opening (take k lines) ++ xs) (drop_more room k r.1 room_here) in
+      let split : now ≡ so_far ++ (get_or room k r.1 ∷ drop (k + 1) room) =
+      z.written ∙ ap (λ (xs : List Answer). so_far ++ xs) (drop_more room k r.1 room_here) in
       record {
         offered = (turn w was line).book.offered;
         within = step.2;
         book = book ∙ step.1;
         written =
             ap (λ (xs : List Answer). slice_set xs k r.1) split
-            ∙ set_at (answers w opening (take k lines)) (get_or room k r.1) (drop (k + 1) room) r.1 k long
-            ∙ sym (append_assoc (answers w opening (take k lines)) (r.1 ∷ []) (drop (k + 1) room))
+            ∙ set_at so_far (get_or room k r.1) (drop (k + 1) room) r.1 k long
+            ∙ sym (append_assoc so_far (r.1 ∷ []) (drop (k + 1) room))
             ∙ ap (λ (xs : List Answer). xs ++ drop (k + 1) room) (sym told);
         strip = sym (stripped ∙ same_rest);
+        bytes = bytes_more lines k d below z.bytes byte;
       }
 
   -- all lines are answered
@@ -133,7 +162,7 @@ module _ (w : World) (old : Around) where
       record {
         answered = z.written ∙ ap (λ (ls : List Line). answers w opening ls ++ drop k room) all
             ∙ ap (λ (n : ℕ). answers w opening lines ++ drop n room) (sym past);
-        left = sym (ap (λ (b : Plain). b.place.rest) book ∙ kept_of here z.offered reader);
+        left = sym (ap (λ (b : Plain). b.place.rest) book ∙ rest_of here z.offered reader);
         slack_left = sym (ap (λ (b : Plain). b.slack) book ∙ slack_of here z.offered reader);
         strip_left = z.strip ∙ ap (strip_after w opening old.strip) all;
       }

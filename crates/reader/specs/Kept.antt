@@ -13,11 +13,11 @@ abbrev pub number_of_book : BookFault → ℕ
 number_of_book ShortStrip = 20
 number_of_book FewAnswers = 30
 
--- why a book is not kept, where there are so many bytes of strip, answers and lines
-abbrev pub book_refusal : ℕ → ℕ → ℕ → Option BookFault
+-- why a book is not kept in this strip and room for answers: the strip comes first
+abbrev pub book_refusal : List ℕ → List Answer → List Line → Option BookFault
 book_refusal strip room lines =
-    if nat_lt strip 4096 then Some ShortStrip
-    else (if nat_lt room lines then Some FewAnswers else None)
+    if nat_lt (length strip) 4096 then Some ShortStrip
+    else (if nat_lt (length room) (length lines) then Some FewAnswers else None)
 
 -- the lines with their answers, latest first
 abbrev pub entries_of : List Line → List Answer → List Entry

@@ -14,7 +14,8 @@ use table::Table;
 pub(crate) fn first<S: Source>(table: &Table, start: Start, source: &S) -> Option<Reading>
     ensures listed { let place = place_of start (S.rest source.now) in
         result ≡ first_of (table_listing (memory_of table.now) place) }
-    ensures right { MatchOption result (S.rest source.now ≡ []) (λ reading. MayTake (S.rest source.now) reading.head) }
+    ensures right { let rest = S.rest source.now in
+        MatchOption result (rest ≡ []) (λ reading. MayTake rest reading.head) }
 {
     first_reading(table, start, source)
 }

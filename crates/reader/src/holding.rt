@@ -158,8 +158,9 @@ impl Holding {
     /// Takes the head, and keeps the text.
     pub fn extend<S: Source>(self, source: &mut S) -> Result<Idle, Refused<Holding>>
         ensures { let n = self.reading.head in
+            let text = self.kept + n in
             let why = extend_refusal self.kept n (S.rest source.old) in
-            Takes S.rest S.slack S.CAPACITY self why n (self.kept + n) source.old source.new result }
+            Takes S.rest S.slack S.CAPACITY self why n text source.old source.new result }
     {
         let yyleng = self.yyleng();
         if yyleng > MOST_KEPT {

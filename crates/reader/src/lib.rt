@@ -1,5 +1,5 @@
-// A reader goes over a source with a table: it offers readings, and takes bytes. A book is a list of
-// lines to a reader, with its answers.
+// A reader goes over a source with a table: it offers readings, and takes bytes. A book is a list
+// of lines to a reader, with its answers.
 #![tactic(auto)]
 
 mod fault;

@@ -1,5 +1,5 @@
-// The two states of a reader. Each call takes one and gives one: neither is Copy, Clone or Drop, so that none is used again and
-// none is forgotten.
+// The two states of a reader. Each call takes one and gives one: neither is Copy, Clone or Drop,
+// so that none is used again and none is forgotten.
 ghost use Rattle.std.specs.Prelude.{◌≤◌};
 
 use crate::fault::ScanFault;

@@ -2,6 +2,7 @@
 ghost use Rattle.std.specs.Prelude.{◌≡◌, ◌≤◌, length};
 ghost use Rattle.plain.specs.declared.Line.TheVariants.{Next, Reject, Accept, Keep, Extend, Begin, PutBack};
 ghost use Rattle.plain.specs.Book.{answer};
+ghost use Rattle.plain.specs.Theorems.{PutsBytes};
 ghost use Rattle.reader.specs.declared.reader.Reader.TheVariants.{Waiting, InHand};
 ghost use Rattle.reader.specs.Follows.{world_of, around, Follows, offering};
 
@@ -176,10 +177,11 @@ pub(crate) fn step<S: Source>(
     strip: &mut [u8],
 ) -> (Reader, Answer)
     requires { 4096 ≤ length strip.old }
-    ensures { let world = world_of table.now S.CAPACITY in
+    ensures follows { let world = world_of table.now S.CAPACITY in
         let old = around (S.rest source.old) (S.slack source.old) strip.old in
         let new = around (S.rest source.new) (S.slack source.new) strip.new in
         Follows world line old reader new result }
+    ensures byte { PutsBytes line }
 {
     match (reader, line) {
         (Reader::Waiting(idle), Line::Next) => next(idle, table, source, strip),

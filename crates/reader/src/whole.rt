@@ -1,8 +1,9 @@
 // A whole book.
-ghost use Rattle.std.specs.Prelude.{◌≡◌, length, None, Some, IfOk, MatchResult};
+ghost use Rattle.std.specs.Prelude.{◌≡◌, All, None, Some, IfOk, MatchResult};
 ghost use Rattle.table.specs.Held.{memory_of};
 ghost use Rattle.scan.specs.Listing.{table_listing};
 ghost use Rattle.plain.specs.Lawful.{Lawful};
+ghost use Rattle.plain.specs.Theorems.{PutsBytes};
 ghost use Rattle.reader.specs.Follows.{world_of, around};
 ghost use Rattle.reader.specs.Kept.{number_of_book, book_refusal, entries_of, IsKept, IsTold};
 
@@ -41,7 +42,7 @@ pub fn book<S: Source>(
     answers: &mut [Answer],
     strip: &mut [u8],
 ) -> Result<(), BookFault>
-    ensures refusal { let why = book_refusal (length strip.old) (length answers.old) (length lines.now) in
+    ensures refusal { let why = book_refusal strip.old answers.old lines.now in
         MatchResult result
         (λ _. why ≡ None)
         (λ fault. (why ≡ Some fault) × (source.new ≡ source.old) × (answers.new ≡ answers.old)
@@ -59,6 +60,8 @@ pub fn book<S: Source>(
     ensures told { let old = around (S.rest source.old) (S.slack source.old) strip.old in
         let new = around (S.rest source.new) (S.slack source.new) strip.new in
         IfOk result (λ _. IsTold S.CAPACITY old new (entries_of lines.now answers.new)) }
+    // A line puts back a byte, as its type says.
+    ensures bytes { IfOk result (λ _. All PutsBytes lines.now) }
 {
     if strip.len() < STRIP_BYTES {
         return Err(BookFault::ShortStrip);
@@ -75,4 +78,70 @@ pub fn book<S: Source>(
     }
     close(reader);
     Ok(())
+}
+
+#[cfg(test)]
+mod tests {
+    use super::*;
+    use source::{Pushback, Sheet};
+    use std::test::Fail;
+    use table::{Loaded, take_up};
+
+    const NONE: Answer = Answer {
+        number: 9,
+        rule: 9,
+        total: 9,
+        head: 9,
+        yyleng: 9,
+        taken: 9,
+    };
+
+    // Without rules each byte is read by itself.
+    #[test]
+    fn bytes_by_themselves(rt: HostRuntime) -> Result<(), Fail> {
+        let loaded = Loaded::zeros();
+        let table = take_up(&loaded, &[]);
+        let lines = [
+            Line::Reject,
+            Line::Next,
+            Line::Next,
+            Line::Reject,
+            Line::Extend,
+            Line::Begin(1),
+            Line::Next,
+            Line::Keep(1),
+            Line::Keep(2),
+            Line::Next,
+            Line::PutBack(b'c'),
+            Line::Next,
+        ];
+        let mut answers = [NONE; 13];
+        let mut strip = [b'-'; STRIP_BYTES];
+        let mut source = Pushback::new(Sheet::new(b"ab", 0));
+        assert!(rt; book(&table, &mut source, &lines, &mut answers, &mut strip).is_ok());
+        let numbers = [31, 0, 32, 22, 0, 25, 0, 23, 0, 21, 0, 0, 9];
+        for (answer, number) in answers.iter().zip(numbers.iter()) {
+            assert_eq!(rt; answer.number, *number);
+        }
+        assert_eq!(rt; answers[6].yyleng, 2);
+        assert_eq!(rt; answers[8].taken, 1);
+        assert_eq!(rt; strip[0], b'c');
+        assert_eq!(rt; strip[1], b'b');
+        assert_eq!(rt; strip[2], b'-');
+        assert_eq!(rt; source.left(), 1);
+        Ok(())
+    }
+
+    #[test]
+    fn refused_before_anything(rt: HostRuntime) -> Result<(), Fail> {
+        let loaded = Loaded::zeros();
+        let table = take_up(&loaded, &[]);
+        let mut source = Sheet::new(b"a", 0);
+        let mut strip = [0; STRIP_BYTES];
+        let short = book(&table, &mut source, &[], &mut [], &mut strip[1..]);
+        assert_eq!(rt; short.map_err(u8::from), Err(20));
+        let few = book(&table, &mut source, &[Line::Next], &mut [], &mut strip);
+        assert_eq!(rt; few.map_err(u8::from), Err(30));
+        Ok(())
+    }
 }

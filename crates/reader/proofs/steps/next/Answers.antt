@@ -24,7 +24,8 @@ returns-in-Err g c =
     let refused = c.in-Err.ensures in
     let why = next_denied (length c.args.strip.now) rest _ c.requires refused.0.0 in
     let none : first_of (table_listing m place) ≡ None = none_listed m place why.1 in
-    let number : c.number.result ≡ 21 = c.number.ensures ∙ ap (λ (f : ScanFault). number_of f) why.0 in
+    let number : c.number.result ≡ 21 =
+    c.number.ensures ∙ ap (λ (f : ScanFault). number_of f) why.0 in
     λ offered within. rw none (
       c.plain.ensures ∙ ap (λ (n : ℕ). answer n 0) number,
       ap (λ (i : Idle). view here offered (Waiting i)) (sym refused.0.1),
