@@ -71,7 +71,9 @@ fn line_of(text: &str) -> Option<Line> {
 // The lines of lines.txt; one that is none is named by its number.
 fn lines_given(rt: &HostRuntime) -> anyhow::Result<Vec<Line>> {
     let file = bytes_of(rt, "lines.txt")?;
-    let text = String::from_utf8(file).ok().context("lines.txt is no text")?;
+    let text = String::from_utf8(file)
+        .ok()
+        .context("lines.txt is no text")?;
     let mut lines = Vec::new(rt.alloc());
     let mut number: u64 = 1;
     for line in text.lines() {
@@ -107,7 +109,7 @@ fn show<S: Source>(rt: &HostRuntime, answers: &[Answer], source: &S) -> anyhow::
     Ok(())
 }
 
-fn keep<S: Source>(
+fn keep<S: Source + Drop>(
     rt: &HostRuntime,
     file: &[u8],
     lines: &[Line],

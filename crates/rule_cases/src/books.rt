@@ -46,7 +46,7 @@ fn lines_of(rt: &HostRuntime, text: &str) -> anyhow::Result<Vec<Line>> {
 }
 
 // Keeps the book, and shows the answers and what is left.
-fn keep<S: Source>(
+fn keep<S: Source + Drop>(
     rt: &HostRuntime,
     table: &Table,
     lines: &[Line],
@@ -65,7 +65,10 @@ fn keep<S: Source>(
         bail!("the book is refused: {}", u8::from(fault));
     }
     for a in answers.iter() {
-        print!(rt; " {}/{}/{}/{}/{}/{}", a.number, a.rule, a.total, a.head, a.yyleng, a.taken)?;
+        print!(rt;
+            " {}/{}/{}/{}/{}/{}",
+            a.number, a.rule, a.total, a.head, a.yyleng, a.taken
+        )?;
     }
     show_rest(rt, &source)
 }
