@@ -6,10 +6,12 @@ pub(crate) enum Reader {
     InHand(Holding),
 }
 
-// Lets it go.
-pub(crate) fn close(reader: Reader) {
-    match reader {
-        Reader::Waiting(idle) => idle.close(),
-        Reader::InHand(holding) => holding.close(),
+impl Reader {
+    // Lets it go.
+    pub(crate) fn close(self) {
+        match self {
+            Reader::Waiting(idle) => idle.close(),
+            Reader::InHand(holding) => holding.close(),
+        }
     }
 }

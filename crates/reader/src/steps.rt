@@ -1,10 +1,11 @@
 // A line of a book at a time.
-ghost use Rattle.std.specs.Prelude.{◌≡◌, ◌≤◌, length};
+ghost use Rattle.std.specs.Prelude.{◌≡◌, ℕ, ◌≤◌, List, length};
+ghost use Rattle.table.specs.declared.held.Table.{Table};
 ghost use Rattle.plain.specs.declared.Line.TheVariants.{Next, Reject, Accept, Keep, Extend, Begin, PutBack};
 ghost use Rattle.plain.specs.Book.{answer};
 ghost use Rattle.plain.specs.Theorems.{PutsBytes};
 ghost use Rattle.reader.specs.declared.reader.Reader.TheVariants.{Waiting, InHand};
-ghost use Rattle.reader.specs.Follows.{world_of, around, Follows, offering};
+ghost use Rattle.reader.specs.Follows.{world_of, Around, around, Follows, offering};
 
 use crate::reader::Reader;
 use crate::state::{Holding, Idle, Refused};
@@ -57,16 +58,9 @@ fn next<S: Source>(idle: Idle, table: &Table, source: &S, strip: &mut [u8]) -> (
     }
 }
 
-fn begin<S: Source>(
-    idle: Idle,
-    condition: usize,
-    table: &Table,
-    source: &S,
-    strip: &[u8],
-) -> (Reader, Answer)
-    ensures { let world = world_of table.now S.CAPACITY in
-        let here = around (S.rest source.now) (S.slack source.now) strip.now in
-        Follows world (Begin condition) here (Waiting idle) here result }
+fn begin(idle: Idle, condition: usize, table: &Table) -> (Reader, Answer)
+    ensures { (capacity : ℕ) (here : Around) →
+        Follows (world_of table.now capacity) (Begin condition) here (Waiting idle) here result }
 {
     match idle.begin(table, condition) {
         Ok(idle) => (Reader::Waiting(idle), plain(0, 0)),
@@ -74,17 +68,11 @@ fn begin<S: Source>(
     }
 }
 
-fn put_back<S: Source>(
-    idle: Idle,
-    b: u8,
-    table: &Table,
-    source: &mut S,
-    strip: &[u8],
-) -> (Reader, Answer)
-    ensures { let world = world_of table.now S.CAPACITY in
-        let old = around (S.rest source.old) (S.slack source.old) strip.now in
-        let new = around (S.rest source.new) (S.slack source.new) strip.now in
-        Follows world (PutBack b) old (Waiting idle) new result }
+fn put_back<S: Source>(idle: Idle, b: u8, source: &mut S) -> (Reader, Answer)
+    ensures { (table : Table) (strip : List ℕ) →
+        let old = around (S.rest source.old) (S.slack source.old) strip in
+        let new = around (S.rest source.new) (S.slack source.new) strip in
+        Follows (world_of table S.CAPACITY) (PutBack b) old (Waiting idle) new result }
 {
     match idle.put_back(source, b) {
         Ok(idle) => (Reader::Waiting(idle), plain(0, 0)),
@@ -113,16 +101,11 @@ fn reject<S: Source>(
     }
 }
 
-fn accept<S: Source>(
-    holding: Holding,
-    table: &Table,
-    source: &mut S,
-    strip: &[u8],
-) -> (Reader, Answer)
-    ensures { let world = world_of table.now S.CAPACITY in
-        let old = around (S.rest source.old) (S.slack source.old) strip.now in
-        let new = around (S.rest source.new) (S.slack source.new) strip.now in
-        Follows world Accept old (InHand holding) new result }
+fn accept<S: Source>(holding: Holding, source: &mut S) -> (Reader, Answer)
+    ensures { (table : Table) (strip : List ℕ) →
+        let old = around (S.rest source.old) (S.slack source.old) strip in
+        let new = around (S.rest source.new) (S.slack source.new) strip in
+        Follows (world_of table S.CAPACITY) Accept old (InHand holding) new result }
 {
     let taken = holding.reading().head;
     match holding.accept(source) {
@@ -131,17 +114,11 @@ fn accept<S: Source>(
     }
 }
 
-fn keep<S: Source>(
-    holding: Holding,
-    n: usize,
-    table: &Table,
-    source: &mut S,
-    strip: &[u8],
-) -> (Reader, Answer)
-    ensures { let world = world_of table.now S.CAPACITY in
-        let old = around (S.rest source.old) (S.slack source.old) strip.now in
-        let new = around (S.rest source.new) (S.slack source.new) strip.now in
-        Follows world (Keep n) old (InHand holding) new result }
+fn keep<S: Source>(holding: Holding, n: usize, source: &mut S) -> (Reader, Answer)
+    ensures { (table : Table) (strip : List ℕ) →
+        let old = around (S.rest source.old) (S.slack source.old) strip in
+        let new = around (S.rest source.new) (S.slack source.new) strip in
+        Follows (world_of table S.CAPACITY) (Keep n) old (InHand holding) new result }
 {
     let taken = n.saturating_sub(holding.kept());
     match holding.keep(source, n) {
@@ -150,16 +127,11 @@ fn keep<S: Source>(
     }
 }
 
-fn extend<S: Source>(
-    holding: Holding,
-    table: &Table,
-    source: &mut S,
-    strip: &[u8],
-) -> (Reader, Answer)
-    ensures { let world = world_of table.now S.CAPACITY in
-        let old = around (S.rest source.old) (S.slack source.old) strip.now in
-        let new = around (S.rest source.new) (S.slack source.new) strip.now in
-        Follows world Extend old (InHand holding) new result }
+fn extend<S: Source>(holding: Holding, source: &mut S) -> (Reader, Answer)
+    ensures { (table : Table) (strip : List ℕ) →
+        let old = around (S.rest source.old) (S.slack source.old) strip in
+        let new = around (S.rest source.new) (S.slack source.new) strip in
+        Follows (world_of table S.CAPACITY) Extend old (InHand holding) new result }
 {
     let taken = holding.reading().head;
     match holding.extend(source) {
@@ -185,15 +157,15 @@ pub(crate) fn step<S: Source>(
 {
     match (reader, line) {
         (Reader::Waiting(idle), Line::Next) => next(idle, table, source, strip),
-        (Reader::Waiting(idle), Line::Begin(c)) => begin(idle, c, table, source, strip),
-        (Reader::Waiting(idle), Line::PutBack(b)) => put_back(idle, b, table, source, strip),
+        (Reader::Waiting(idle), Line::Begin(c)) => begin(idle, c, table),
+        (Reader::Waiting(idle), Line::PutBack(b)) => put_back(idle, b, source),
         (Reader::Waiting(idle), Line::Reject | Line::Accept | Line::Keep(_) | Line::Extend) => {
             (Reader::Waiting(idle), plain(31, 0))
         }
         (Reader::InHand(holding), Line::Reject) => reject(holding, table, source, strip),
-        (Reader::InHand(holding), Line::Accept) => accept(holding, table, source, strip),
-        (Reader::InHand(holding), Line::Keep(n)) => keep(holding, n, table, source, strip),
-        (Reader::InHand(holding), Line::Extend) => extend(holding, table, source, strip),
+        (Reader::InHand(holding), Line::Accept) => accept(holding, source),
+        (Reader::InHand(holding), Line::Keep(n)) => keep(holding, n, source),
+        (Reader::InHand(holding), Line::Extend) => extend(holding, source),
         (Reader::InHand(holding), Line::Next | Line::Begin(_) | Line::PutBack(_)) => {
             (Reader::InHand(holding), plain(32, 0))
         }

@@ -7,7 +7,7 @@ ghost use Rattle.plain.specs.Theorems.{PutsBytes};
 ghost use Rattle.reader.specs.Follows.{world_of, around};
 ghost use Rattle.reader.specs.Kept.{number_of_book, book_refusal, entries_of, IsKept, IsTold};
 
-use crate::reader::{Reader, close};
+use crate::reader::Reader;
 use crate::state::Idle;
 use crate::steps::step;
 use crate::strip::STRIP_BYTES;
@@ -76,7 +76,7 @@ pub fn book<S: Source>(
         reader = next;
         answers[k] = answer;
     }
-    close(reader);
+    reader.close();
     Ok(())
 }
 

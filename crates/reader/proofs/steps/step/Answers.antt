@@ -20,7 +20,7 @@ returns-in-Waiting-Begin-clause-follows g c =
     let t = s in
     let new = around (g.S.Source.rest t) (g.S.Source.slack t) c.args.strip.now in
     same_step world old new c.begin.result _ _ _ _
-    c.in-Waiting-Begin.is-0 c.in-Waiting-Begin.is-1 c.begin.ensures
+    c.in-Waiting-Begin.is-0 c.in-Waiting-Begin.is-1 (c.begin.ensures g.S.Source.CAPACITY old)
 
 pub returns-in-Waiting-PutBack-clause-follows : goal.returns-in-Waiting-PutBack-clause-follows
 returns-in-Waiting-PutBack-clause-follows g c =
@@ -30,7 +30,7 @@ returns-in-Waiting-PutBack-clause-follows g c =
     let t = c.put_back.new.source in
     let new = around (g.S.Source.rest t) (g.S.Source.slack t) c.args.strip.now in
     same_step world old new c.put_back.result _ _ _ _
-    c.in-Waiting-PutBack.is-0 c.in-Waiting-PutBack.is-1 c.put_back.ensures
+    c.in-Waiting-PutBack.is-0 c.in-Waiting-PutBack.is-1 (c.put_back.ensures c.args.table.now c.args.strip.now)
 
 pub returns-in-InHand-Reject-clause-follows : goal.returns-in-InHand-Reject-clause-follows
 returns-in-InHand-Reject-clause-follows g c =
@@ -50,7 +50,7 @@ returns-in-InHand-Accept-clause-follows g c =
     let t = c.accept.new.source in
     let new = around (g.S.Source.rest t) (g.S.Source.slack t) c.args.strip.now in
     same_step world old new c.accept.result _ _ _ _
-    c.in-InHand-Accept.is-0 c.in-InHand-Accept.is-1 c.accept.ensures
+    c.in-InHand-Accept.is-0 c.in-InHand-Accept.is-1 (c.accept.ensures c.args.table.now c.args.strip.now)
 
 pub returns-in-InHand-Keep-clause-follows : goal.returns-in-InHand-Keep-clause-follows
 returns-in-InHand-Keep-clause-follows g c =
@@ -60,7 +60,7 @@ returns-in-InHand-Keep-clause-follows g c =
     let t = c.keep.new.source in
     let new = around (g.S.Source.rest t) (g.S.Source.slack t) c.args.strip.now in
     same_step world old new c.keep.result _ _ _ _
-    c.in-InHand-Keep.is-0 c.in-InHand-Keep.is-1 c.keep.ensures
+    c.in-InHand-Keep.is-0 c.in-InHand-Keep.is-1 (c.keep.ensures c.args.table.now c.args.strip.now)
 
 pub returns-in-InHand-Extend-clause-follows : goal.returns-in-InHand-Extend-clause-follows
 returns-in-InHand-Extend-clause-follows g c =
@@ -70,4 +70,4 @@ returns-in-InHand-Extend-clause-follows g c =
     let t = c.extend.new.source in
     let new = around (g.S.Source.rest t) (g.S.Source.slack t) c.args.strip.now in
     same_step world old new c.extend.result _ _ _ _
-    c.in-InHand-Extend.is-0 c.in-InHand-Extend.is-1 c.extend.ensures
+    c.in-InHand-Extend.is-0 c.in-InHand-Extend.is-1 (c.extend.ensures c.args.table.now c.args.strip.now)
