@@ -17,9 +17,10 @@ use places::Reading;
 use source::Source;
 
 impl<'a, S: Source> Trace<'a, S> {
-    /// All that is listed here, from the first reading on. Element i of `heads` is lent for rule i
-    /// + 1: of a rule with a trailing part one pass tells all heads there, and without an element
-    /// each of its readings takes a few passes. What lent memory holds does not matter.
+    /// All that is listed here, from the first reading on. The elements of `heads` are lent for the
+    /// rules in their order: of a rule with a trailing part one pass tells all heads there, and
+    /// without an element each of its readings takes a few passes. What lent memory holds does not
+    /// matter.
     pub fn readings<'t>(
         &'t self,
         heads: &'t mut [RuleHeads],

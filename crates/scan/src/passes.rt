@@ -13,7 +13,7 @@ use table::Walk;
 
 impl<S: Source> Trace<'_, S> {
     // Writes the head that a rule with this trailing part has with each total up to the live bytes:
-    // at k that of k + 1 bytes.
+    // at k that of k + 1 bytes. Compiled as a function of its own, it takes fewer steps.
     #[inline(never)]
     pub(crate) fn heads(
         &self,
