@@ -91,7 +91,7 @@ OneBook =
     ≡ answers (record { conditions = conditions; capacity = capacity; listing = other })
     (opened supplied slack) lines
 
--- so that the laws are laws of something
+-- what the rules of a file list is listed right: so there are books that keep the laws
 abbrev pub RulesListRight : Type 0
 RulesListRight =
     (rules : List RuleText) (listing : Place → List Reading) →

@@ -9,7 +9,7 @@ ghost use Rattle.reader.specs.Follows.{world_of, Around, around, Follows, offeri
 
 use crate::reader::Reader;
 use crate::state::{Holding, Idle, Refused};
-use plain::{Answer, Line};
+use plain::{Answer, Line, LineFault};
 use source::Source;
 use table::Table;
 
@@ -160,14 +160,20 @@ pub(crate) fn step<S: Source>(
         (Reader::Waiting(idle), Line::Begin(c)) => begin(idle, c, table),
         (Reader::Waiting(idle), Line::PutBack(b)) => put_back(idle, b, source),
         (Reader::Waiting(idle), Line::Reject | Line::Accept | Line::Keep(_) | Line::Extend) => {
-            (Reader::Waiting(idle), plain(31, 0))
+            (
+                Reader::Waiting(idle),
+                plain(LineFault::NothingInHand as usize, 0),
+            )
         }
         (Reader::InHand(holding), Line::Reject) => reject(holding, table, source, strip),
         (Reader::InHand(holding), Line::Accept) => accept(holding, source),
         (Reader::InHand(holding), Line::Keep(n)) => keep(holding, n, source),
         (Reader::InHand(holding), Line::Extend) => extend(holding, source),
         (Reader::InHand(holding), Line::Next | Line::Begin(_) | Line::PutBack(_)) => {
-            (Reader::InHand(holding), plain(32, 0))
+            (
+                Reader::InHand(holding),
+                plain(LineFault::ReadingInHand as usize, 0),
+            )
         }
     }
 }

@@ -56,7 +56,7 @@ pub fn book<S: Source>(
     ensures laws { let listing = table_listing (memory_of table.now) in
         IfOk result (λ _. Lawful (λ place listed. listed ≡ listing place) (S.rest source.old)
         (entries_of lines.now answers.new)) }
-    // And by it alone: what is left of the source, and the strip.
+    // Lines and answers alone tell what is left of the source, and what stands in the strip.
     ensures told { let old = around (S.rest source.old) (S.slack source.old) strip.old in
         let new = around (S.rest source.new) (S.slack source.new) strip.new in
         IfOk result (λ _. IsTold S.CAPACITY old new (entries_of lines.now answers.new)) }

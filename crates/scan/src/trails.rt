@@ -19,6 +19,7 @@ impl Trails {
     pub fn new() -> Trails
         ensures rows { result.rows ≡ replicate 1024 0 }
         ensures heads { result.heads ≡ replicate 1024 0 }
+        ensures seen { result.seen ≡ replicate 1024 0 }
     {
         Trails {
             rows: [0; 1024],

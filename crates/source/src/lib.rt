@@ -115,7 +115,7 @@ mod tests {
         }
         assert_eq!(rt; source.put_back(0), Err(SourceFault::NoSlack));
         assert_eq!(rt; taken(&mut source), Some(255));
-        let mut sheet = source.into_below().into_below();
+        let mut sheet = Sheet::new(b"", 0);
         assert_eq!(rt; capacity_of(&sheet), 0);
         assert_eq!(rt; sheet.put_back(0), Err(SourceFault::NoSlack));
         assert_eq!(rt; u8::from(SourceFault::PastEnd), 11);

@@ -22,14 +22,6 @@ impl<S: Source> Pushback<S> {
             },
         }
     }
-
-    /// The source below; what was put back in front of it and is not read again is lost.
-    pub fn into_below(self) -> S
-        ensures { result ≡ self.below }
-    {
-        let Pushback { below, .. } = self;
-        below
-    }
 }
 
 impl<S: Source> Source for Pushback<S> {
