@@ -3,7 +3,7 @@
 use crate::escaped::decode;
 use anyhow::{Context, bail};
 use bits::PositionSet;
-use loader::load;
+use loader::{MOST_ROWS, load};
 use plain::{Answer, Line};
 use reader::{STRIP_BYTES, book};
 use source::{Pushback, Sheet, Source};
@@ -104,6 +104,8 @@ pub(crate) fn show_book(
     let file = decode(rt.alloc(), text.as_bytes())?;
     let sheet = decode(rt.alloc(), sheet.as_bytes())?;
     let lines = lines_of(rt, told)?;
+    let lent = MOST_ROWS.min(rows.len());
+    let rows = &mut rows[..lent];
     let mut loaded = Loaded::zeros();
     if load(file.as_slice(), &mut loaded, rows, work).is_err() {
         bail!("the rules of {name} are refused");

@@ -111,12 +111,7 @@ fn main(rt: HostRuntime) -> anyhow::Result<()> {
         show_listing(&rt, line, rows.as_mut_slice(), work.as_mut_slice())?;
     }
     for line in fs::read_to_string(&rt, "books.txt")?.lines() {
-        show_book(
-            &rt,
-            line,
-            &mut rows.as_mut_slice()[..MOST_ROWS],
-            work.as_mut_slice(),
-        )?;
+        show_book(&rt, line, rows.as_mut_slice(), work.as_mut_slice())?;
     }
     Ok(())
 }
