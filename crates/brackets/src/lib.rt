@@ -106,11 +106,16 @@ fn bytes_where<F: Fn(u8) -> bool>(test: F) -> ByteSet
     set
 }
 
-// The bytes from `low` to `high`.
+// The bytes from `low` to `high`. It goes over these alone, and not over all bytes as `bytes_where` does: a bracket may have
+// hundreds of short ranges.
 fn range(low: u8, high: u8) -> ByteSet
     ensures { (b : ℕ) → has result.words b ≡ within low high b }
 {
-    bytes_where(|b| low <= b && b <= high)
+    let mut set = Bits::empty();
+    for b in low..=high {
+        set.insert(b as usize);
+    }
+    set
 }
 
 // The bytes of a class.
