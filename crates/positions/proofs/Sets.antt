@@ -1,11 +1,10 @@
 -- Sets in the work memory after a write, by membership.
-use Rattle.std.proofs.Common.{◌≡◌, ℕ, ◌+◌, ◌-◌, ◌/◌, ◌<◌, ◌≤◌, Bool, true, false, cond, ◌&&◌, eqb, ltb, leb, ◌≢◌, ◌⊎◌, length, [], get_or, set, take, drop, refl, inl, inr, arith, rules, get_or-set_other, get_or-set_same}
+use Rattle.std.proofs.Common.{◌≡◌, ℕ, ◌+◌, ◌-◌, ◌/◌, ◌<◌, ◌≤◌, true, false, cond, ◌&&◌, eqb, ltb, leb, ◌≢◌, ◌⊎◌, length, [], ◌++◌, get_or, set, take, drop, refl, inl, inr, arith, rules, get_or-set_other, get_or-set_same}
 use Rattle.std.proofs.lemmas.Bool.{cases_eq, cases_lt, eq-eqb, ne_eqb, le-leb, lt-leb, le-ltb, lt-ltb, leb-true, and_from, and_left, and_right, and_parts}
 use Rattle.std.proofs.lemmas.Bool.Decides.{nat_tests}
-use Rattle.std.proofs.lemmas.List.{places, get_or_past}
+use Rattle.std.proofs.lemmas.List.{places}
 use borrow.Rule.Slice.PartMut.{put_mid}
 use Rattle.bits.specs.Set.{has}
-use Rattle.bits.proofs.Words.{has_past}
 use Rattle.bits.specs.declared.Bits.{Bits}
 use Rattle.positions.specs.Memory.{Work, member, roomy, between, copiable}
 
@@ -19,23 +18,6 @@ member_set w i s k q h =
 -- eight words have room for the numbers below 512
 pub word_room : (q : ℕ) → ltb (q / 64) 8 ≡ ltb q 512
 word_room q = grind (arith, nat_tests)
-
-pub member_past : (w : Work) (k q : ℕ) → length w ≤ k → member w k q ≡ false
-member_past w k q h = rw (get_or_past w k (record { words = [] }) h) (has_past [] q (omega arith))
-
--- w' is w but for the first i sets, which are as `at` says: one more such set is written
-pub next_set : (at : ℕ → ℕ → Bool) (w w' : Work) (i : ℕ) (s : Bits 8)
-    → i < length w'
-    → ((k q : ℕ) → member w' k q ≡ cond (ltb k i) (at k q) (member w k q))
-    → ((q : ℕ) → has s.words q ≡ at i q)
-    → (k q : ℕ) → member (set w' i s) k q ≡ cond (ltb k (i + 1)) (at k q) (member w k q)
-next_set at w w' i s h inv here k q =
-    let new = member_set w' i s k q h in
-    let old = inv k q in
-    elim (cases_eq k i) [
-      | inl e ↦ rw e (let put = here q in let set = member_set w' i s i q h in grind (arith, nat_tests))
-      | inr n ↦ grind (arith, nat_tests)
-    ]
 
 pub between_in : (low end k : ℕ) → low ≤ k → k < end → between low end k ≡ true
 between_in low end k h l = and_from (leb low k) (ltb k end) (le-leb low k h) (lt-ltb k end l)
@@ -113,17 +95,29 @@ part_member w a n k q h =
     let e : get_or (take n (drop a w)) k (record { words = [] }) ≡ get_or w (a + k) (record { words = [] }) = search (rules, places) in
     rw e refl
 
--- the part of the copies, with their members moved up
-pub copies_moved : (w u part : Work) (from n by m : ℕ) → from + n + by ≤ length u → m ≡ n → length part ≡ m
-    → ((k q : ℕ) → member u k q ≡ cond (between (from + by) (from + n + by) k) (member w (k - by) q) (member w k q))
-    → ((k q : ℕ) → member part k q ≡ (ltb q 512 && (leb by q && member (take m (drop (from + by) u)) k (q - by))))
-    → (k q : ℕ) → member (put_mid (from + by) m u part) k q ≡ cond (between (from + by) (from + n + by) k) (ltb q 512 && (leb by q && member w (k - by) (q - by))) (member w k q)
-copies_moved w u part from n by m room same long copy shift k q =
-    let end : from + by + m ≡ from + n + by = omega arith in
-    elim (between_cases (from + by) (from + n + by) k) [
-      | inl (low, high) ↦
-          let here = between_in (from + by) (from + n + by) k low high in
-          let back : from + by + (k - (from + by)) ≡ k = omega arith in
-          rw (member_part u part (from + by) m k q (omega arith) long, end, here, shift (k - (from + by)) q, part_member u (from + by) m (k - (from + by)) (q - by) (omega arith), back, copy k (q - by), here) refl
-      | inr out ↦ rw (member_part u part (from + by) m k q (omega arith) long, end, out, copy k q, out) refl
-    ]
+-- the memory whose part from `from + by` on is `part`, the n sets from `from` on with their members moved up
+module _ (w front back part : Work) (from n by : ℕ) (fits : from + n + by ≤ length w) (apart : n ≤ by)
+    (is_front : front ≡ take (from + by) w) (is_back : back ≡ drop (from + by) w) (long : length part ≡ n)
+    (moved : (k q : ℕ) → k < n → member part k q ≡ (ltb q 512 && (leb by q && member front (from + k) (q - by)))) where
+  abbrev pub after : Work
+  after = front ++ (part ++ drop n back)
+
+  pub part_moved : (k q : ℕ) → member after k q ≡ cond (between (from + by) (from + n + by) k) (ltb q 512 && (leb by q && member w (k - by) (q - by))) (member w k q)
+  part_moved k q =
+      let none : Bits 8 = record { words = [] } in
+      elim (cases_lt k (from + by)) [
+        | inl less ↦
+            let e : get_or after k none ≡ get_or w k none = search (rules, places) in
+            rw (between_below (from + by) (from + n + by) k less, e) refl
+        | inr above ↦
+            elim (cases_lt k (from + n + by)) [
+              | inl to ↦
+                  let i = k - (from + by) in
+                  let e : get_or after k none ≡ get_or part i none = search (rules, places) in
+                  let old : get_or front (from + i) none ≡ get_or w (k - by) none = search (rules, places) in
+                  rw (between_in (from + by) (from + n + by) k above to, e, moved i q (omega arith), old) refl
+              | inr past ↦
+                  let e : get_or after k none ≡ get_or w k none = search (rules, places) in
+                  rw (between_past (from + by) (from + n + by) k past, e) refl
+            ]
+      ]

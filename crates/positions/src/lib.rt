@@ -149,24 +149,17 @@ fn copy_sets(work: &mut [PositionSet], from: usize, count: usize, by: usize)
     work.copy_within(from..from + count, from + by);
 }
 
-// Moves each member of the sets up.
-fn shift_sets(sets: &mut [PositionSet], by: usize)
-    ensures { (k q : ℕ) → member sets.new k q ≡ (nat_lt q 512
-        && (nat_le by q && member sets.old k (q - by))) }
-{
-    for set in sets.iter_mut() {
-        *set = set.shifted(by);
-    }
-}
-
 // As `copy_sets`, with each member of the copies moved up as well.
 fn move_sets(work: &mut [PositionSet], from: usize, count: usize, by: usize)
     requires { (count ≤ by) × (from + count + by ≤ length work.old) }
     ensures { (k q : ℕ) → member work.new k q ≡ (if between (from + by) (from + count + by) k then
         nat_lt q 512 && (nat_le by q && member work.old (k - by) (q - by)) else member work.old k q) }
 {
-    copy_sets(work, from, count, by);
-    shift_sets(&mut work[from + by..from + by + count], by);
+    // Copied and moved up in one go, so that each set is gone over once.
+    let (front, back) = work.split_at_mut(from + by);
+    for (i, set) in back[..count].iter_mut().enumerate() {
+        *set = front[from + i].shifted(by);
+    }
 }
 
 // A copy of the `count` positions from `from` on, and of x, which is made of them, `by` further up.

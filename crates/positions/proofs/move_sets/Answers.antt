@@ -1,8 +1,12 @@
-use Rattle.std.proofs.Common.{arith}
-use Rattle.positions.proofs.Sets.{copies_moved}
+use Rattle.std.proofs.Common.{arith, rules}
+use Rattle.std.proofs.lemmas.Bool.Decides.{nat_tests}
+use Rattle.positions.proofs.Sets.{part_moved}
 use Rattle.positions.proofs.move_sets.Goals as goal
 
 pub returns : goal.returns
 returns c =
     let a = c.args in
-    copies_moved a.work.now c.copy_sets.new.work c.shift_sets.new.sets a.from a.count a.by _ (omega arith) (omega arith) (omega arith) c.copy_sets.ensures c.shift_sets.ensures
+    let split = c.split_at_mut-front in
+    part_moved a.work.now split.result.0.now split.result.1.now c.loop-i.set-items a.from a.count a.by (omega arith) (omega arith)
+    split.ensures.front split.ensures.back (search rules)
+    (λ k q lt. let is = c.loop-i.invariant.1 k q in grind (arith, nat_tests))
