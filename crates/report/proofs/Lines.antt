@@ -1,8 +1,9 @@
 -- Where a line starts, by what stands before a place.
-use Rattle.std.proofs.Common.{◌≡◌, ◌≢◌, ℕ, zero, suc, ◌+◌, ◌<◌, ◌≤◌, inl, inr, List, get_or, take, refl, arith, eq-eqb, ne_eqb}
+use Rattle.std.proofs.Common.{◌≡◌, ◌≢◌, ℕ, zero, suc, ◌+◌, ◌<◌, ◌≤◌, false, inl, inr, List, length, get_or, take, refl, sym, ap, ◌∙◌, arith, eq-eqb, ne_eqb}
 use Rattle.std.proofs.lemmas.Bool.{cases_eq}
 use Rattle.std.proofs.lemmas.List.{get_or-take}
-use Rattle.report.specs.Lines.{line_start}
+use Rattle.std.proofs.lemmas.List.Sums.{count_by_more_no}
+use Rattle.report.specs.Lines.{newline, newlines, line_start}
 
 module _ (s : List ℕ) where
   pub first_line : (n : ℕ) → ((k : ℕ) → k < n → get_or s k 0 ≢ 10) → line_start s n ≡ 0
@@ -24,3 +25,19 @@ module _ (s : List ℕ) where
   unfolding line_start
   line_start-take n zero h = refl
   line_start-take n (suc m) h = rw (get_or-take n s m 0 (omega arith), line_start-take n m (omega arith)) refl
+
+  -- all newlines before a place stand before its line's start
+  pub newlines-start : (n : ℕ) → n ≤ length s → newlines s (line_start s n) ≡ newlines s n
+  unfolding line_start
+  newlines-start zero h = refl
+  newlines-start (suc n) h =
+      elim (cases_eq (get_or s n 0) 10) [
+        | inl e ↦ rw (eq-eqb (get_or s n 0) 10 e) refl
+        | inr e ↦
+            let other : newline (get_or s n 0) ≡ false = ne_eqb (get_or s n 0) 10 e in
+            let next : n + 1 ≡ suc n = omega arith in
+            rw other
+            (newlines-start n (omega arith)
+            ∙ sym (count_by_more_no newline s n 0 (omega arith) other)
+            ∙ ap (newlines s) next)
+      ]

@@ -56,8 +56,10 @@ pub fn locate(file: &[u8], place: usize) -> Location
     let at = place.min(file.len());
     let (before, behind) = file.split_at(at);
     let start = last_start(before);
+    // No newline stands between the line's start and the place: a long line is gone over once.
+    let lines = before[..start].iter().filter(|b| **b == b'\n').count();
     Location {
-        line: 1 + before.iter().filter(|b| **b == b'\n').count(),
+        line: 1 + lines,
         column: at - start + 1,
         start,
         end: at + before_newline(behind),
