@@ -5,11 +5,12 @@ ghost use Rattle.finder.specs.Names.{padded};
 use crate::Same;
 
 // The first `len` of the bytes are the name. The others are 0, so that equal names have equal bytes. No String: the
-// library has no heap. No impl Model: tried, and a crate above that lends what holds names was then not proved.
+// library has no heap. No impl Model: tried, and a crate above that lends what holds names was then not proved. `len` stands
+// first, since fields are compared in order: names of other lengths differ at once.
 #[derive(Clone, Copy, PartialEq, Eq)]
 pub struct Name {
-    bytes: [u8; 24],
     len: usize,
+    bytes: [u8; 24],
     ghost ok: { len ≤ 24 },
     ghost filled: { bytes ≡ padded (take len bytes) },
 }
